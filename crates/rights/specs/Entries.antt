@@ -1,0 +1,24 @@
+-- The order of entries, and which entries a book may hold.
+-- Before: by subject, then table, then grantor, then bit number. Proper: every number is in its range.
+use mathlib.Core.Path.{_≡_}
+use mathlib.Core.Logic.{_⊎_}
+use mathlib.Core.List.{List}
+use Prim.Native.Nat.{ℕ, _<_}
+use Rattle.rights.specs.declared.entries.Entry.{Entry}
+use Rattle.rights.specs.Bits.{bit}
+use Rattle.rights.specs.Lists.{Rising}
+use Rattle.rights.specs.Numbers.{SubjectNumber, TableNumber}
+
+-- a is the lesser, or they are equal and the rest decides
+abbrev pub Then : ℕ → ℕ → Type 0 → Type 0
+Then a b rest = (a < b) ⊎ ((a ≡ b) × rest)
+
+unfoldable pub Before : Entry → Entry → Type 0
+Before e f = Then (e .subject) (f .subject) (Then (e .table) (f .table) (Then (e .grantor) (f .grantor) (bit (e .right) < bit (f .right))))
+
+-- a grantor is a person, so never 0
+abbrev pub Proper : Entry → Type 0
+Proper e = SubjectNumber (e .subject) × TableNumber (e .table) × SubjectNumber (e .grantor)
+
+abbrev pub RisingEntries : List Entry → Type 0
+RisingEntries es = Rising Before es

@@ -1,0 +1,9 @@
+pub mod Bits
+pub mod Checks
+pub mod Entries
+pub mod Faults
+pub mod Lists
+pub mod Numbers
+pub mod Subjects
+pub mod Tables
+pub mod Within
