@@ -104,3 +104,11 @@ pub enum Answer {
     No(Ground),
     Refused(SheetFault),
 }
+
+// The states of a sitting.
+#[derive(Clone, Copy, PartialEq, Eq)]
+pub enum State {
+    SettingUp,
+    Open,
+    Closed,
+}

@@ -9,6 +9,7 @@ pub use commands::Answer;
 pub use commands::Command;
 pub use commands::Ground;
 pub use commands::Named;
+pub use commands::State;
 pub use entries::Entry;
 pub use entries::Pair;
 pub use faults::BookFault;
