@@ -80,17 +80,17 @@ NoMark subjects i = (i ≡ 0) ⊎ (IsCreator subjects i → ⊥)
 unfoldable pub WellMade : Tables → List ℕ → Type 0
 WellMade tables ds = (1 ≤ length ds) × (length ds ≤ 8) × Rising _<_ ds × ((n : ℕ) × LevelOver tables ds n × (n ≤ 7))
 
+-- the number is another subject's already
+abbrev pub taken-check : Subjects → ℕ → List (Check RegisterFault)
+taken-check subjects n = refuse RegisterFault.Taken (Registered subjects n) ∷ []
+
 unfoldable pub user-checks : Subjects → ℕ → ℕ → List (Check RegisterFault)
 user-checks subjects n c =
-    refuse RegisterFault.BadNumber (SubjectNumber n × FlagNumber c → ⊥) ∷
-    refuse RegisterFault.Taken (Registered subjects n) ∷
-    []
+    refuse RegisterFault.BadNumber (SubjectNumber n × FlagNumber c → ⊥) ∷ taken-check subjects n
 
 unfoldable pub group-checks : Subjects → ℕ → List (Check RegisterFault)
 group-checks subjects n =
-    refuse RegisterFault.BadNumber (SubjectNumber n → ⊥) ∷
-    refuse RegisterFault.Taken (Registered subjects n) ∷
-    []
+    refuse RegisterFault.BadNumber (SubjectNumber n → ⊥) ∷ taken-check subjects n
 
 unfoldable pub open-checks : Subjects → List (Check RegisterFault)
 open-checks subjects = refuse RegisterFault.Nobody ((n : ℕ) → IsPerson subjects n → ⊥) ∷ []

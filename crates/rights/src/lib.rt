@@ -17,6 +17,7 @@ pub use faults::RegisterFault;
 pub use faults::RollFault;
 pub use faults::SheetFault;
 pub use records::Subject;
+pub use records::TableRecord;
 pub use vocabulary::Kind;
 pub use vocabulary::Privilege;
 pub use vocabulary::Rank;

@@ -1,0 +1,24 @@
+use mathlib.Core.Path.{refl, sym, ap, _∙_}
+use native.Mathlib.Omega.{arith}
+use Rattle.rights.proofs.Firsts.{first-here, first-later, first-none}
+use Rattle.register.proofs.Sound.{parts, none-some, some-from, none-from, sound-enrol, subjects-enrol}
+use Rattle.register.proofs.catalogue.Catalogue.enrol.Needs as need
+
+pub returns-then-is-some : need.returns-then-is-some
+returns-then-is-some c =
+    let found = some-from (c .subject .result) (sym (c .if-is-some .ensures tt)) in
+    record { verdict = first-here _ _ (found .0, sym (c .subject .ensures) ∙ found .1); effect = refl }
+
+pub ghost-self : need.ghost-self
+ghost-self c =
+    let s = c .args .self .now in
+    parts (sound-enrol (s .subjects) (s .tables) (c .args .n) (c .args .subject) (sym (c .subject .ensures) ∙ none-from (c .subject .result) (sym (c .if-is-some .ensures tt))) (c .pre .some) (record { wide = s .wide; long = s .long; office = s .office; owned = s .owned; few = s .few; standing = s .standing; rising = s .rising; levelled = s .levelled; low = s .low }))
+
+pub returns : need.returns
+returns c =
+    let s = c .args .self .now in
+    let free = sym (c .subject .ensures) ∙ none-from (c .subject .result) (sym (c .if-is-some .ensures tt)) in
+    record {
+      verdict = first-later _ _ _ (λ taken. none-some (sym free ∙ taken .1)) (first-none _);
+      effect = record { subjects = subjects-enrol (s .subjects) (c .args .n) (c .args .subject) (omega (arith, s .wide)); tables = refl };
+    }

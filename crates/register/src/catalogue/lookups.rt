@@ -1,0 +1,67 @@
+// What the catalogue tells of a number. A number out of range has nothing under it.
+ghost use mathlib.Core.Path.{_≡_};
+ghost use Prim.Native.Nat.{ℕ};
+ghost use Rattle.std.specs.Options.{mapped, isSome};
+ghost use Rattle.std.specs.Orderings.{Decides};
+ghost use Rattle.register.specs.Catalogue.{subjects-in, tables-in};
+ghost use Rattle.register.specs.Rows.{table-of};
+ghost use Rattle.rights.specs.Subjects.{IsPerson, IsCreator};
+ghost use Rattle.rights.specs.Tables.{Stands};
+use crate::catalogue::Catalogue;
+use rights::Subject;
+use rights::TableRecord;
+
+impl Catalogue {
+    // What is registered under n.
+    pub fn subject(&self, n: u16) -> Option<Subject>
+        ensures { λ r. ⌜ r ≡ subjects-in (now (self .entry)) n ⌝ }
+    {
+        if n < 256 { self.subjects[n as usize] } else { None }
+    }
+
+    // What stands under t.
+    pub fn table(&self, t: u16) -> Option<TableRecord>
+        ensures { λ r. ⌜ mapped table-of r ≡ tables-in (now (self .entry)) t ⌝ }
+    {
+        if t < 128 { self.tables[t as usize] } else { None }
+    }
+
+    pub fn is_person(&self, n: u16) -> bool
+        ensures { λ r. ⌜ Decides r (IsPerson (subjects-in (now (self .entry))) n) ⌝ }
+    {
+        match self.subject(n) {
+            Some(Subject::Person { creator: _ }) => true,
+            Some(Subject::Group) => false,
+            None => false,
+        }
+    }
+
+    // A person with the creator's mark.
+    pub fn is_creator(&self, n: u16) -> bool
+        ensures { λ r. ⌜ Decides r (IsCreator (subjects-in (now (self .entry))) n) ⌝ }
+    {
+        match self.subject(n) {
+            Some(Subject::Person { creator }) => creator,
+            Some(Subject::Group) => false,
+            None => false,
+        }
+    }
+
+    pub fn stands(&self, t: u16) -> bool
+        ensures { λ r. ⌜ Decides r (Stands (tables-in (now (self .entry))) t) ⌝ }
+    {
+        self.table(t).is_some()
+    }
+
+    // Whether anybody is registered as a person.
+    pub fn has_person(&self) -> bool
+        ensures { λ r. ⌜ Decides r ((n : ℕ) × IsPerson (subjects-in (now (self .entry))) n) ⌝ }
+    {
+        for n in 0..256 {
+            if self.is_person(n) {
+                return true;
+            }
+        }
+        false
+    }
+}
