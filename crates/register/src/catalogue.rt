@@ -7,6 +7,7 @@ use rights::TableRecord;
 
 mod enrol;
 mod lookups;
+mod making;
 
 #[derive(Drop)]
 pub struct Catalogue {

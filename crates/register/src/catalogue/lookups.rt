@@ -1,12 +1,14 @@
 // What the catalogue tells of a number. A number out of range has nothing under it.
 ghost use mathlib.Core.Path.{_≡_};
 ghost use Prim.Native.Nat.{ℕ};
-ghost use Rattle.std.specs.Options.{mapped, isSome};
+ghost use lib.ListN.{getD};
+ghost use Rattle.std.specs.declared.option.Option.the-variants.{None};
+ghost use Rattle.std.specs.Options.{mapped, Cases as BySome};
 ghost use Rattle.std.specs.Orderings.{Decides};
 ghost use Rattle.register.specs.Catalogue.{subjects-in, tables-in};
 ghost use Rattle.register.specs.Rows.{table-of};
 ghost use Rattle.rights.specs.Subjects.{IsPerson, IsCreator};
-ghost use Rattle.rights.specs.Tables.{Stands};
+ghost use Rattle.rights.specs.Tables.{Stands, Level};
 use crate::catalogue::Catalogue;
 use rights::Subject;
 use rights::TableRecord;
@@ -16,14 +18,24 @@ impl Catalogue {
     pub fn subject(&self, n: u16) -> Option<Subject>
         ensures { λ r. ⌜ r ≡ subjects-in (now (self .entry)) n ⌝ }
     {
-        if n < 256 { self.subjects[n as usize] } else { None }
+        if n < 256 {
+            self.subjects[n as usize]
+        } else {
+            None
+        }
     }
 
     // What stands under t.
     pub fn table(&self, t: u16) -> Option<TableRecord>
-        ensures { λ r. ⌜ mapped table-of r ≡ tables-in (now (self .entry)) t ⌝ }
+        ensures row { λ r. ⌜ r ≡ getD (now (self .entry) .tables) t None ⌝ }
+        ensures value { λ r. ⌜ mapped table-of r ≡ tables-in (now (self .entry)) t ⌝ }
+        ensures level { λ r. ⌜ BySome r (Unit {0}) (λ x. Level (tables-in (now (self .entry))) t (x .level)) ⌝ }
     {
-        if t < 128 { self.tables[t as usize] } else { None }
+        if t < 128 {
+            self.tables[t as usize]
+        } else {
+            None
+        }
     }
 
     pub fn is_person(&self, n: u16) -> bool

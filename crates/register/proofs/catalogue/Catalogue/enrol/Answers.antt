@@ -2,6 +2,7 @@ use mathlib.Core.Path.{refl, sym, ap, _∙_}
 use native.Mathlib.Omega.{arith}
 use Rattle.rights.proofs.Firsts.{first-here, first-later, first-none}
 use Rattle.register.proofs.Sound.{parts, none-some, some-from, none-from, sound-enrol, subjects-enrol}
+use Rattle.register.proofs.Whole.{sound}
 use Rattle.register.proofs.catalogue.Catalogue.enrol.Needs as need
 
 pub returns-then-is-some : need.returns-then-is-some
@@ -12,7 +13,7 @@ returns-then-is-some c =
 pub ghost-self : need.ghost-self
 ghost-self c =
     let s = c .args .self .now in
-    parts (sound-enrol (s .subjects) (s .tables) (c .args .n) (c .args .subject) (sym (c .subject .ensures) ∙ none-from (c .subject .result) (sym (c .if-is-some .ensures tt))) (c .pre .some) (record { wide = s .wide; long = s .long; office = s .office; owned = s .owned; few = s .few; standing = s .standing; rising = s .rising; levelled = s .levelled; low = s .low }))
+    parts (sound-enrol (s .subjects) (s .tables) (c .args .n) (c .args .subject) (sym (c .subject .ensures) ∙ none-from (c .subject .result) (sym (c .if-is-some .ensures tt))) (c .pre .some) (sound s))
 
 pub returns : need.returns
 returns c =

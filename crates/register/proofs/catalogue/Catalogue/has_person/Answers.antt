@@ -14,11 +14,10 @@ loop-n-again c = below-more _ _ (c .loop-n .inv) (not-from-decides (c .is-person
 
 pub returns : need.returns
 returns c =
-    let s = c .args .self .now in
-    (
+    let s = c .args .self .now in (
       λ e. absurd (false≢true e),
       λ someone. absurd (⊎-elim
-        (λ below. c .loop-n .inv (someone .0) (omega arith) (someone .1))
-        (λ past. none-some (sym (getD-past (s .subjects) (someone .0) None (omega (arith, s .wide))) ∙ someone .1 .1))
-        (cases-lt (someone .0) 256)),
+          (λ below. c .loop-n .inv (someone .0) (omega arith) (someone .1))
+          (λ past. none-some (sym (getD-past (s .subjects) (someone .0) None (omega (arith, s .wide))) ∙ someone .1 .1))
+          (cases-lt (someone .0) 256)),
     )
