@@ -7,10 +7,8 @@ use Prim.Native.Nat.{ℕ}
 use Rattle.std.proofs.shelf.Tests.{cases-eq}
 use Rattle.rights.specs.declared.entries.Pair.{Pair}
 use Rattle.rights.specs.Lists.{In}
+use Rattle.rights.specs.Pairs.{pair}
 use Rattle.rights.specs.Within.{Path, here, step, Within, Below, Loopless}
-
-abbrev pub pair : ℕ → ℕ → Pair
-pair m g = record { member = m; group = g }
 
 -- every pair of ps is one of qs
 abbrev pub Inside : List Pair → List Pair → Type 0

@@ -4,6 +4,7 @@ pub mod Entries
 pub mod Faults
 pub mod Lists
 pub mod Numbers
+pub mod Pairs
 pub mod Subjects
 pub mod Tables
 pub mod Within
