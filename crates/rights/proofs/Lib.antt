@@ -1,3 +1,5 @@
 pub mod Bits
+pub mod Checks
+pub mod Deciding
 pub mod Order
 pub mod Within
