@@ -57,3 +57,7 @@ mutual
   pub data LevelOver (tables : Tables) : List ℕ → ℕ → Type 0 where
     over-none : LevelOver tables [] 0
     over-more : {d k n : ℕ} {ds : List ℕ} → Level tables d k → LevelOver tables ds n → LevelOver tables (d ∷ ds) (max (k + 1) n)
+
+-- every table that stands has a level, so no view is beneath itself and whatever is named stands
+abbrev pub Levelled : Tables → Type 0
+Levelled tables = (t : ℕ) → Stands tables t → (n : ℕ) × Level tables t n
