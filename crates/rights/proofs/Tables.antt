@@ -10,10 +10,10 @@ use lib.Dec.{eqb}
 use Rattle.std.specs.Orderings.{Decides}
 use Rattle.std.specs.declared.option.Option.{Option}
 use Rattle.std.specs.declared.option.Option.the-variants.{Some, None}
-use Rattle.std.proofs.shelf.Tests.{eqb-true}
+use Rattle.std.proofs.shelf.Tests.{eqb-true, eqb-false, eq-eqb, cond-true, cond-false}
 use Rattle.std.proofs.shelf.Ways.{decides-eqb, decides-or, decides-not, decides-like}
 use Rattle.rights.specs.Lists.{In}
-use Rattle.rights.specs.Tables.{Table, Tables, made, Stands, IsBase, IsView, Owns, Names, Beneath, named, deeper, Level, level, LevelOver, over-none, over-more, Levelled}
+use Rattle.rights.specs.Tables.{Table, Tables, no-tables, made, Stands, IsBase, IsView, Owns, Names, Beneath, named, deeper, Level, level, LevelOver, over-none, over-more, Levelled}
 use Rattle.rights.proofs.Deciding.{some-test, decides-some, decides-in, either-way}
 
 pub some-same : {X : Type 0} (x y : X) → Some x ≡ Some y → x ≡ y
@@ -180,3 +180,36 @@ module _ (tables : Tables) where
 
   pub beneath-or-not : Levelled tables → (b t : ℕ) → Beneath tables b t ⊎ (Beneath tables b t → ⊥)
   beneath-or-not levels b t = let l = levels-of levels t in either-way (beneath-test (l .0) b t) (decides-beneath (l .0) b t (l .1))
+
+-- whatever stands in the one stands in the other
+abbrev pub Extends : Tables → Tables → Type 0
+Extends tables more = (t : ℕ) (r : Table) → tables t ≡ Some r → more t ≡ Some r
+
+module _ (tables more : Tables) (keeps : Extends tables more) where
+  mutual
+    pub level-extends : {t n : ℕ} → Level tables t n → Level more t n
+    level-extends (level {t = t} {r = r} e o) = level (keeps t r e) (over-extends o)
+
+    pub over-extends : {ds : List ℕ} {n : ℕ} → LevelOver tables ds n → LevelOver more ds n
+    over-extends over-none = over-none
+    over-extends (over-more l o) = over-more (level-extends l) (over-extends o)
+
+module _ (tables : Tables) (t : ℕ) (r : Table) where
+  -- a table under a free number changes no other
+  pub made-extends : tables t ≡ None → Extends tables (made t r tables)
+  made-extends free d q e = by (eqb d t) refl
+    where
+      by : (b : Bool) → eqb d t ≡ b → cond b (Some r) (tables d) ≡ Some q
+      by true same = absurd (none-some q (sym free ∙ (ap tables (sym (eqb-true d t same)) ∙ e)))
+      by false apart = e
+
+  -- a table made over tables of such levels has its level too
+  pub low-made : (n k : ℕ) → ((d : ℕ) → Low tables n d) → tables t ≡ None → LevelOver tables (r .names) k → k ≤ n → (d : ℕ) → Low (made t r tables) n d
+  low-made n k low free o le d st = by (eqb d t) refl (st .1)
+    where
+      by : (b : Bool) → eqb d t ≡ b → cond b (Some r) (tables d) ≡ Some (st .0) → (j : ℕ) × Level (made t r tables) d j × (j ≤ n)
+      by true same e = (k, level (ap (λ b. cond b (Some r) (tables d)) same) (over-extends tables (made t r tables) (made-extends free) o), le)
+      by false apart e = let l = low d (st .0, e) in (l .0, level-extends tables (made t r tables) (made-extends free) (l .1), l .2)
+
+pub low-none : (n t : ℕ) → Low no-tables n t
+low-none n t st = absurd (none-some (st .0) (st .1))
