@@ -1,3 +1,4 @@
+pub mod Access
 pub mod Bits
 pub mod Checks
 pub mod Deciding
