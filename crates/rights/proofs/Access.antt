@@ -85,7 +85,7 @@ module _ (pairs : List Pair) (tables : Tables) (entries : List Entry) where
   decides-applies u p sign t = decides-like (applies-test u p sign t) (holds-applies u p sign t) (applies-holds u p sign t) (decides-holds (unblocked p sign t) entries u p sign t Strength.Weak)
 
   abbrev pub weakly-test : ℕ → Privilege → ℕ → Bool
-  weakly-test u p t = applies-test u p Sign.Plus t && not (applies-test u p Sign.Minus t)
+  weakly-test u p t = let minus = applies-test u p Sign.Minus t in applies-test u p Sign.Plus t && not minus
 
   pub decides-weakly : (u : ℕ) (p : Privilege) (t : ℕ) → Decides (weakly-test u p t) (Weakly pairs tables entries u p t)
   unfolding Weakly
@@ -93,10 +93,13 @@ module _ (pairs : List Pair) (tables : Tables) (entries : List Entry) where
 
   -- a base table beneath t with a strong minus is the table of an entry
   abbrev pub denied-by-test : ℕ → ℕ → Privilege → ℕ → ℕ → Bool
-  denied-by-test n u p t b = base-test tables b && (beneath-test tables n b t && strong-minus-test pairs entries u p b)
+  denied-by-test n u p t b =
+      let held = strong-minus-test pairs entries u p b in
+      let beneath = beneath-test tables n b t && held in
+      base-test tables b && beneath
 
   abbrev pub denied-test : ℕ → ℕ → Privilege → ℕ → Bool
-  denied-test n u p t = strong-minus-test pairs entries u p t || some-test (λ e. denied-by-test n u p t (e .table)) entries
+  denied-test n u p t = let deep = some-test (λ e. denied-by-test n u p t (e .table)) entries in strong-minus-test pairs entries u p t || deep
 
   pub decides-denied : (n u : ℕ) (p : Privilege) (t : ℕ) → Low tables n t → Decides (denied-test n u p t) (Denied pairs tables entries u p t)
   unfolding Denied StrongMinus Holds
@@ -130,7 +133,7 @@ module _ (pairs : List Pair) (tables : Tables) (entries : List Entry) where
 
   -- the rules' yes on t, by the tables named or not as the last test says
   abbrev pub yes-test : ℕ → ℕ → Privilege → ℕ → Bool → Bool
-  yes-test n u p t b = strong-plus-test pairs tables entries u p t || (not (denied-test n u p t) && (weakly-test u p t || b))
+  yes-test n u p t b = let more = not (denied-test n u p t) && (weakly-test u p t || b) in strong-plus-test pairs tables entries u p t || more
 
   pub decides-yes : (n u : ℕ) (p : Privilege) (t : ℕ) (b : Bool) → Low tables n t → Decides b (ByNames pairs tables entries u p t) → Decides (yes-test n u p t b) (Granted pairs tables entries u p t)
   decides-yes n u p t b low k = decides-like (yes-test n u p t b) (yes-granted u p t) granted-yes
@@ -140,7 +143,9 @@ module _ (pairs : List Pair) (tables : Tables) (entries : List Entry) where
 
   abbrev pub by-names-test : ℕ → ℕ → Privilege → ℕ → Bool
   by-names-test zero u p t = false
-  by-names-test (suc n) u p t = view-test tables t && (owns-test tables u t && each-test (λ d. yes-test n u p d (by-names-test n u p d)) (names-of (tables t)))
+  by-names-test (suc n) u p t =
+      let all = each-test (λ d. yes-test n u p d (by-names-test n u p d)) (names-of (tables t)) in
+      view-test tables t && (owns-test tables u t && all)
 
   abbrev pub granted-test : ℕ → ℕ → Privilege → ℕ → Bool
   granted-test n u p t = yes-test n u p t (by-names-test n u p t)
@@ -174,10 +179,11 @@ module _ (pairs : List Pair) (tables : Tables) (entries : List Entry) where
 
   -- the answer by the tests
   abbrev pub answer : ℕ → ℕ → Privilege → ℕ → Answer
-  answer n u p t = cond (strong-plus-test pairs tables entries u p t) (Answer.Yes Ground.Strong) (
-      cond (denied-test n u p t) (Answer.No Ground.Strong) (
-      cond (weakly-test u p t) (Answer.Yes Ground.Weak) (
-      cond (by-names-test n u p t) (Answer.Yes Ground.Named) (Answer.No Ground.Nothing))))
+  answer n u p t =
+      let fourth = cond (by-names-test n u p t) (Answer.Yes Ground.Named) (Answer.No Ground.Nothing) in
+      let third = cond (weakly-test u p t) (Answer.Yes Ground.Weak) fourth in
+      let second = cond (denied-test n u p t) (Answer.No Ground.Strong) third in
+      cond (strong-plus-test pairs tables entries u p t) (Answer.Yes Ground.Strong) second
 
   pub answers : (n u : ℕ) (p : Privilege) (t : ℕ) → Low tables n t → Answers pairs tables entries u p t (answer n u p t)
   unfolding Answers rules
@@ -219,3 +225,6 @@ module _ (pairs : List Pair) (tables : Tables) (entries : List Entry) where
   answer-granted u p t g h = ⊎-elim (λ s. strongly (s .0)) (λ a. ⊎-elim (λ d. absurd (yes-no g Ground.Strong (d .1)))
       (λ b. ⊎-elim (λ w. weakly (b .0) (w .0)) (λ c. ⊎-elim (λ n. by-names (b .0) (n .0 .0) (n .0 .1) (n .0 .2))
         (λ l. ⊎-elim (λ k. absurd (yes-no g Ground.Nothing (k .1))) (λ k. absurd (k .0 tt)) (l .1)) (c .1)) (b .1)) (a .1)) h
+
+  pub granted-or-not : Levelled tables → (u : ℕ) (p : Privilege) (t : ℕ) → Granted pairs tables entries u p t ⊎ (Granted pairs tables entries u p t → ⊥)
+  granted-or-not levels u p t = let l = levels-of tables levels t in either-way (granted-test (l .0) u p t) (decides-granted (l .0) u p t (l .1))

@@ -1,4 +1,5 @@
 -- Tests over lists, and what they decide: that some element has a property, that all have it, which elements are kept.
+-- A part of a test that an earlier part may settle is bound by `let`, so that it is computed only where it is needed.
 use mathlib.Core.Path.{_≡_, refl, sym, ap, subst, _∙_}
 use mathlib.Core.Bool.{Bool, true, false, true≢false, not, cond, _&&_, _||_}
 use mathlib.Core.Logic.{_⊎_, inl, inr, ⊎-elim}
@@ -34,11 +35,11 @@ module _ {X : Type 0} where
 
   abbrev pub some-test : (X → Bool) → List X → Bool
   some-test f [] = false
-  some-test f (x ∷ xs) = f x || some-test f xs
+  some-test f (x ∷ xs) = let more = some-test f xs in f x || more
 
   abbrev pub each-test : (X → Bool) → List X → Bool
   each-test f [] = true
-  each-test f (x ∷ xs) = f x && each-test f xs
+  each-test f (x ∷ xs) = let more = each-test f xs in f x && more
 
   -- the elements that pass the test
   abbrev pub passing : (X → Bool) → List X → List X

@@ -64,7 +64,10 @@ decides-pair-in = decides-in same-pair decides-same-pair
 -- s is within g: already by the rest of the pairs, or through the first of them
 abbrev pub within-test : List Pair → ℕ → ℕ → Bool
 within-test [] s g = eqb s g
-within-test (a ∷ ps) s g = within-test ps s g || (within-test ps s (a .member) && within-test ps (a .group) g)
+within-test (a ∷ ps) s g =
+    let on = within-test ps (a .group) g in
+    let through = within-test ps s (a .member) && on in
+    within-test ps s g || through
 
 pub decides-within : (ps : List Pair) (s g : ℕ) → Decides (within-test ps s g) (Within ps s g)
 decides-within [] s g = decides-like (eqb s g) (within-same [] s g) (within-none s g) (decides-eqb s g)
@@ -73,14 +76,14 @@ decides-within (a ∷ ps) s g = decides-like (within-test (a ∷ ps) s g) (withi
       (decides-and (within-test ps s (a .member)) (within-test ps (a .group) g) (decides-within ps s (a .member)) (decides-within ps (a .group) g)))
 
 abbrev pub gives-test : Entry → Privilege → Sign → ℕ → Strength → Bool
-gives-test e p sign t r = eqb (e .table) t && same-right (e .right) (Right.Access p sign r)
+gives-test e p sign t r = let same = same-right (e .right) (Right.Access p sign r) in eqb (e .table) t && same
 
 pub decides-gives : (e : Entry) (p : Privilege) (sign : Sign) (t : ℕ) (r : Strength) → Decides (gives-test e p sign t r) (Gives e p sign t r)
 decides-gives e p sign t r = decides-and (eqb (e .table) t) (same-right (e .right) (Right.Access p sign r)) (decides-eqb (e .table) t) (decides-same-right (e .right) (Right.Access p sign r))
 
 -- some entry gives it, at a subject that passes the test
 abbrev pub entry-test : (ℕ → Bool) → List Entry → Privilege → Sign → ℕ → Strength → Bool
-entry-test f entries p sign t r = some-test (λ e. gives-test e p sign t r && f (e .subject)) entries
+entry-test f entries p sign t r = some-test (λ e. let there = f (e .subject) in gives-test e p sign t r && there) entries
 
 pub decides-entry : (P : ℕ → Type 0) (f : ℕ → Bool) → ((s : ℕ) → Decides (f s) (P s)) → (entries : List Entry) (p : Privilege) (sign : Sign) (t : ℕ) (r : Strength) →
     Decides (entry-test f entries p sign t r) ((e : Entry) × In e entries × Gives e p sign t r × P (e .subject))
@@ -105,7 +108,7 @@ module _ (pairs : List Pair) (entries : List Entry) where
 
 module _ (pairs : List Pair) (tables : Tables) (entries : List Entry) where
   abbrev pub strong-plus-test : ℕ → Privilege → ℕ → Bool
-  strong-plus-test s p t = holds-test pairs entries s p Sign.Plus t Strength.Strong || (base-test tables t && owns-test tables s t)
+  strong-plus-test s p t = let owned = base-test tables t && owns-test tables s t in holds-test pairs entries s p Sign.Plus t Strength.Strong || owned
 
   pub decides-strong-plus : (s : ℕ) (p : Privilege) (t : ℕ) → Decides (strong-plus-test s p t) (StrongPlus pairs tables entries s p t)
   unfolding StrongPlus

@@ -155,7 +155,7 @@ module _ (tables : Tables) where
   -- b is beneath t, looked for through n levels
   abbrev pub beneath-test : ℕ → ℕ → ℕ → Bool
   beneath-test zero b t = false
-  beneath-test (suc n) b t = some-test (λ d. eqb b d || beneath-test n b d) (names-of (tables t))
+  beneath-test (suc n) b t = some-test (λ d. let deep = beneath-test n b d in eqb b d || deep) (names-of (tables t))
 
   pub decides-beneath : (n b t : ℕ) → Low tables n t → Decides (beneath-test n b t) (Beneath tables b t)
   decides-beneath zero b t low = (λ e. absurd (true≢false (sym e)), λ q. let n = beneath-names tables q in absurd (low-names-none t (n .0) low (n .1)))
