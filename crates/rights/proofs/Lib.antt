@@ -1,6 +1,7 @@
 pub mod Access
 pub mod Bits
 pub mod Checks
+pub mod Clash
 pub mod Deciding
 pub mod Holding
 pub mod Order
