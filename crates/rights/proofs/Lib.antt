@@ -5,5 +5,6 @@ pub mod Clash
 pub mod Deciding
 pub mod Holding
 pub mod Order
+pub mod Reading
 pub mod Tables
 pub mod Within

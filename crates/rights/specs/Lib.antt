@@ -8,6 +8,7 @@ pub mod Entries
 pub mod Faults
 pub mod History
 pub mod Holding
+pub mod Laws
 pub mod Lists
 pub mod Numbers
 pub mod Pairs
