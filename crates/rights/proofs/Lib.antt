@@ -6,5 +6,6 @@ pub mod Deciding
 pub mod Holding
 pub mod Order
 pub mod Reading
+pub mod Scenes
 pub mod Tables
 pub mod Within

@@ -15,6 +15,7 @@ pub mod Pairs
 pub mod Read
 pub mod Refusals
 pub mod Runs
+pub mod Scenes
 pub mod Subjects
 pub mod Tables
 pub mod Within

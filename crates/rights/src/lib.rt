@@ -1,6 +1,7 @@
 // The vocabulary of the register: rights, entries, pairs, records, refusals and commands.
 mod commands;
 mod entries;
+mod examples;
 mod faults;
 mod records;
 mod vocabulary;
@@ -12,6 +13,7 @@ pub use commands::Named;
 pub use commands::State;
 pub use entries::Entry;
 pub use entries::Pair;
+pub use examples::Example;
 pub use faults::BookFault;
 pub use faults::RegisterFault;
 pub use faults::RollFault;
