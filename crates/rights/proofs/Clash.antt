@@ -97,8 +97,8 @@ module _ (pairs : List Pair) (tables : Tables) (entries : List Entry) where
   clash-candidate s c =
       let m = c .5 in
       ⊎-elim (λ e. in-left s (map (λ (e : Entry). e .subject) entries) (map (λ (a : Pair). a .member) pairs) (subst (λ x. In x (map (λ (e : Entry). e .subject) entries)) (sym e) (in-map (λ (e : Entry). e .subject) (m .0) entries (m .1))))
-        (λ b. in-right s (map (λ (e : Entry). e .subject) entries) (map (λ (a : Pair). a .member) pairs) (in-map (λ (a : Pair). a .member) (pair s (b .0)) pairs (b .1)))
-        (within-cases pairs s (m .0 .subject) (m .3))
+      (λ b. in-right s (map (λ (e : Entry). e .subject) entries) (map (λ (a : Pair). a .member) pairs) (in-map (λ (a : Pair). a .member) (pair s (b .0)) pairs (b .1)))
+      (within-cases pairs s (m .0 .subject) (m .3))
 
   -- e's table has a strong plus of s over f, a strong minus for p
   abbrev Over : ℕ → Privilege → Entry → Entry → Type 0
@@ -158,19 +158,19 @@ module _ (pairs : List Pair) (tables : Tables) (entries : List Entry) where
     module _ (low : (t : ℕ) → Low tables (height t) t) where
       decides-over : (s : ℕ) (p : Privilege) (f e : Entry) → Decides (over-test s p f e) (Over s p f e)
       decides-over s p f e = decides-and (eqb (f .table) (e .table) || beneath-test tables (height (e .table)) (f .table) (e .table)) (strong-plus-test pairs tables entries s p (e .table))
-        (decides-or (eqb (f .table) (e .table)) (beneath-test tables (height (e .table)) (f .table) (e .table)) (decides-eqb (f .table) (e .table)) (decides-beneath tables (height (e .table)) (f .table) (e .table) (low (e .table))))
-        (decides-strong-plus pairs tables entries s p (e .table))
+          (decides-or (eqb (f .table) (e .table)) (beneath-test tables (height (e .table)) (f .table) (e .table)) (decides-eqb (f .table) (e .table)) (decides-beneath tables (height (e .table)) (f .table) (e .table) (low (e .table))))
+          (decides-strong-plus pairs tables entries s p (e .table))
 
       decides-under : (p : Privilege) (f : Entry) (s : ℕ) → Decides (under-test p f s) (Under p f s)
       decides-under p f s = decides-and (within-test pairs s (f .subject)) (some-test (over-test s p f) entries) (decides-within pairs s (f .subject)) (decides-some (Over s p f) (over-test s p f) entries (λ e _. decides-over s p f e))
 
       decides-meets : (subjects : List ℕ) (f : Entry) (p : Privilege) → Decides (meets-test subjects f p) (Meets subjects f p)
       decides-meets subjects f p = decides-and (same-right (f .right) (Right.Access p Sign.Minus Strength.Strong)) (some-test (under-test p f) subjects)
-        (decides-same-right (f .right) (Right.Access p Sign.Minus Strength.Strong)) (decides-some (Under p f) (under-test p f) subjects (λ s _. decides-under p f s))
+          (decides-same-right (f .right) (Right.Access p Sign.Minus Strength.Strong)) (decides-some (Under p f) (under-test p f) subjects (λ s _. decides-under p f s))
 
       pub decides-clash : (subjects : List ℕ) → Decides (clash-test subjects) (Some-in (Clash pairs tables entries) subjects)
       decides-clash subjects = decides-like (clash-test subjects) (met-clash subjects) (clash-met subjects)
-        (decides-some (λ f. Some-in (Meets subjects f) privileges) (λ f. some-test (meets-test subjects f) privileges) entries
+          (decides-some (λ f. Some-in (Meets subjects f) privileges) (λ f. some-test (meets-test subjects f) privileges) entries
           (λ f _. decides-some (Meets subjects f) (meets-test subjects f) privileges (λ p _. decides-meets subjects f p)))
 
       pub decides-clashing : Decides (clash-test candidates) (Clashing pairs tables entries)

@@ -73,7 +73,7 @@ pub decides-within : (ps : List Pair) (s g : ℕ) → Decides (within-test ps s 
 decides-within [] s g = decides-like (eqb s g) (within-same [] s g) (within-none s g) (decides-eqb s g)
 decides-within (a ∷ ps) s g = decides-like (within-test (a ∷ ps) s g) (within-through ps (a .member) (a .group) s g) (within-more ps (a .member) (a .group) s g)
     (decides-or (within-test ps s g) (within-test ps s (a .member) && within-test ps (a .group) g) (decides-within ps s g)
-      (decides-and (within-test ps s (a .member)) (within-test ps (a .group) g) (decides-within ps s (a .member)) (decides-within ps (a .group) g)))
+    (decides-and (within-test ps s (a .member)) (within-test ps (a .group) g) (decides-within ps s (a .member)) (decides-within ps (a .group) g)))
 
 abbrev pub gives-test : Entry → Privilege → Sign → ℕ → Strength → Bool
 gives-test e p sign t r = let same = same-right (e .right) (Right.Access p sign r) in eqb (e .table) t && same
@@ -89,7 +89,7 @@ pub decides-entry : (P : ℕ → Type 0) (f : ℕ → Bool) → ((s : ℕ) → D
     Decides (entry-test f entries p sign t r) ((e : Entry) × In e entries × Gives e p sign t r × P (e .subject))
 decides-entry P f d entries p sign t r = decides-like (entry-test f entries p sign t r) (λ h. (h .0, h .1, h .2 .0, h .2 .1)) (λ h. (h .0, h .1, (h .2, h .3)))
     (decides-some (λ e. Gives e p sign t r × P (e .subject)) (λ e. gives-test e p sign t r && f (e .subject)) entries
-      (λ e _. decides-and (gives-test e p sign t r) (f (e .subject)) (decides-gives e p sign t r) (d (e .subject))))
+    (λ e _. decides-and (gives-test e p sign t r) (f (e .subject)) (decides-gives e p sign t r) (d (e .subject))))
 
 module _ (pairs : List Pair) (entries : List Entry) where
   abbrev pub holds-test : ℕ → Privilege → Sign → ℕ → Strength → Bool

@@ -12,10 +12,9 @@ use Rattle.rights.specs.declared.vocabulary.Sign.{Sign}
 use Rattle.rights.specs.declared.vocabulary.Strength.{Strength}
 use Rattle.rights.specs.Access.{ButLast, other, WeakAt, Applies, Denied, Weakly, Granted, strongly, weakly, by-names, ByNames, rules, Answers}
 use Rattle.rights.specs.Holding.{Gives, Holds, StrongPlus, StrongMinus}
-use Rattle.rights.specs.Laws.{SameBelow, One-answer, Reads-below}
+use Rattle.rights.specs.Laws.{SameBelow, Reads-below}
 use Rattle.rights.specs.Lists.{In}
 use Rattle.rights.specs.Tables.{Table, Tables, IsBase, IsView, Owns, Names, Beneath, named, deeper, AtOrBeneath}
-use Rattle.rights.proofs.Access.{answers-unique, answered}
 use Rattle.rights.proofs.Checks.{first-alike}
 use Rattle.rights.proofs.Tables.{beneath-trans}
 
@@ -36,8 +35,9 @@ module _ (tables : Tables) (entries : List Entry) (tables′ : Tables) (entries�
 
   pub same-deeper : (b t : ℕ) → AtOrBeneath tables b t → Same t → Same b
   same-deeper b t q h = record {
-      same-table = λ c k. h .same-table c (at-or-beneath-deeper tables c b t q k);
-      same-entry = λ e k. h .same-entry e (at-or-beneath-deeper tables (e .table) b t q k) }
+    same-table = λ c k. h .same-table c (at-or-beneath-deeper tables c b t q k);
+    same-entry = λ e k. h .same-entry e (at-or-beneath-deeper tables (e .table) b t q k);
+  }
 
   beneath-same : {b t : ℕ} → Beneath tables b t → Same t → Beneath tables′ b t
   beneath-same (named {t} {v} n) h = named (table-same tables tables′ (λ r. In t (r .names)) v (h .same-table v (inl refl)) n)
@@ -52,8 +52,9 @@ module _ (tables : Tables) (entries : List Entry) (tables′ : Tables) (entries�
 
   pub same-back : (t : ℕ) → Same t → SameBelow tables′ entries′ tables entries t
   same-back t h = record {
-      same-table = λ b q. sym (h .same-table b (back b q));
-      same-entry = λ e q. let k = h .same-entry e (back (e .table) q) in (k .1, k .0) }
+    same-table = λ b q. sym (h .same-table b (back b q));
+    same-entry = λ e q. let k = h .same-entry e (back (e .table) q) in (k .1, k .0);
+  }
     where
       back : (b : ℕ) → AtOrBeneath tables′ b t → AtOrBeneath tables b t
       back b (inl e) = inl e
@@ -110,17 +111,22 @@ module _ (pairs : List Pair) (tables : Tables) (entries : List Entry) (tables′
   applies-same : (u : ℕ) (p : Privilege) (sign : Sign) (t : ℕ) → SameBelow tables entries tables′ entries′ t → Applies pairs tables entries u p sign t → Applies pairs tables′ entries′ u p sign t
   unfolding Applies
   applies-same u p sign t h a =
-      let back = same-back tables entries tables′ entries′ t h in
-      (a .0, a .1, weak-at-same pairs tables entries tables′ entries′ p sign t (a .0) h (a .2), a .3,
+      let back = same-back tables entries tables′ entries′ t h in (
+        a .0,
+        a .1,
+        weak-at-same pairs tables entries tables′ entries′ p sign t (a .0) h (a .2),
+        a .3,
         but-last-like (λ x. WeakAt pairs tables entries p (other sign) t x → ⊥) (λ x. WeakAt pairs tables′ entries′ p (other sign) t x → ⊥)
-          (λ s n w. n (weak-at-same pairs tables′ entries′ tables entries p (other sign) t s back w)) (a .1) (a .4))
+            (λ s n w. n (weak-at-same pairs tables′ entries′ tables entries p (other sign) t s back w)) (a .1) (a .4),
+      )
 
 module _ (pairs : List Pair) (tables : Tables) (entries : List Entry) (tables′ : Tables) (entries′ : List Entry) where
   weakly-same : (u : ℕ) (p : Privilege) (t : ℕ) → SameBelow tables entries tables′ entries′ t → Weakly pairs tables entries u p t → Weakly pairs tables′ entries′ u p t
   unfolding Weakly
-  weakly-same u p t h w =
-      (applies-same pairs tables entries tables′ entries′ u p Sign.Plus t h (w .0),
-        λ a. w .1 (applies-same pairs tables′ entries′ tables entries u p Sign.Minus t (same-back tables entries tables′ entries′ t h) a))
+  weakly-same u p t h w = (
+    applies-same pairs tables entries tables′ entries′ u p Sign.Plus t h (w .0),
+    λ a. w .1 (applies-same pairs tables′ entries′ tables entries u p Sign.Minus t (same-back tables entries tables′ entries′ t h) a),
+  )
 
   not-denied-same : (u : ℕ) (p : Privilege) (t : ℕ) → SameBelow tables entries tables′ entries′ t → (Denied pairs tables entries u p t → ⊥) → Denied pairs tables′ entries′ u p t → ⊥
   not-denied-same u p t h n d = n (denied-same pairs tables′ entries′ tables entries u p t (same-back tables entries tables′ entries′ t h) d)
@@ -133,30 +139,45 @@ module _ (pairs : List Pair) (tables : Tables) (entries : List Entry) (tables′
   granted-same {u} {p} (weakly {t} n w) h = weakly (not-denied-same u p t h n) (weakly-same u p t h w)
   granted-same {u} {p} (by-names {t} n v o g) h =
       by-names (not-denied-same u p t h n) (view-same pairs tables entries tables′ entries′ t h v) (owns-same pairs tables entries tables′ entries′ u t h o)
-        (λ d m. let k = names-back pairs tables entries tables′ entries′ t d h m in granted-same (g d k) (named-same t d h k))
+      (λ d m. let k = names-back pairs tables entries tables′ entries′ t d h m in granted-same (g d k) (named-same t d h k))
 
   by-names-same : (u : ℕ) (p : Privilege) (t : ℕ) → SameBelow tables entries tables′ entries′ t → ByNames pairs tables entries u p t → ByNames pairs tables′ entries′ u p t
   unfolding ByNames
-  by-names-same u p t h b =
-      (view-same pairs tables entries tables′ entries′ t h (b .0), owns-same pairs tables entries tables′ entries′ u t h (b .1),
-        λ d m. let k = names-back pairs tables entries tables′ entries′ t d h m in granted-same (b .2 d k) (named-same t d h k))
+  by-names-same u p t h b = (
+    view-same pairs tables entries tables′ entries′ t h (b .0),
+    owns-same pairs tables entries tables′ entries′ u t h (b .1),
+    λ d m. let k = names-back pairs tables entries tables′ entries′ t d h m in granted-same (b .2 d k) (named-same t d h k),
+  )
 
 module _ (pairs : List Pair) (tables : Tables) (entries : List Entry) (tables′ : Tables) (entries′ : List Entry) where
   answers-same : (u : ℕ) (p : Privilege) (t : ℕ) (a : Answer) → SameBelow tables entries tables′ entries′ t → Answers pairs tables entries u p t a → Answers pairs tables′ entries′ u p t a
   unfolding Answers rules
   answers-same u p t a h k =
       let back = same-back tables entries tables′ entries′ t h in
-      first-alike (rules pairs tables entries u p t) (rules pairs tables′ entries′ u p t) (Some a)
-        (refl, strong-plus-same pairs tables entries tables′ entries′ u p t h, strong-plus-same pairs tables′ entries′ tables entries u p t back,
-        (refl, denied-same pairs tables entries tables′ entries′ u p t h, denied-same pairs tables′ entries′ tables entries u p t back,
-        (refl, weakly-same pairs tables entries tables′ entries′ u p t h, weakly-same pairs tables′ entries′ tables entries u p t back,
-        (refl, by-names-same pairs tables entries tables′ entries′ u p t h, by-names-same pairs tables′ entries′ tables entries u p t back,
-        (refl, (λ _. tt), (λ _. tt), tt))))) k
+      first-alike (rules pairs tables entries u p t) (rules pairs tables′ entries′ u p t) (Some a) (
+        refl,
+        strong-plus-same pairs tables entries tables′ entries′ u p t h,
+        strong-plus-same pairs tables′ entries′ tables entries u p t back,
+        (
+          refl,
+          denied-same pairs tables entries tables′ entries′ u p t h,
+          denied-same pairs tables′ entries′ tables entries u p t back,
+          (
+            refl,
+            weakly-same pairs tables entries tables′ entries′ u p t h,
+            weakly-same pairs tables′ entries′ tables entries u p t back,
+            (
+              refl,
+              by-names-same pairs tables entries tables′ entries′ u p t h,
+              by-names-same pairs tables′ entries′ tables entries u p t back,
+              (refl, (λ _. tt), (λ _. tt), tt),
+            ),
+          ),
+        ),
+      ) k
 
 pub reads-below : Reads-below
-reads-below pairs tables tables′ entries entries′ t h u p a =
-    (answers-same pairs tables entries tables′ entries′ u p t a h,
-      answers-same pairs tables′ entries′ tables entries u p t a (same-back tables entries tables′ entries′ t h))
-
-pub one-answer : One-answer
-one-answer pairs tables entries u p t = (answers-unique pairs tables entries u p t, λ levels. answered pairs tables entries levels u p t)
+reads-below pairs tables tables′ entries entries′ t h u p a = (
+  answers-same pairs tables entries tables′ entries′ u p t a h,
+  answers-same pairs tables′ entries′ tables entries u p t a (same-back tables entries tables′ entries′ t h),
+)

@@ -40,6 +40,3 @@ found x = answer (scene x .pairs) (scene x .tables) (scene x .entries) 2 2 Privi
 
 pub found-right : (x : Example) (a : Answer) → found x ≡ a → AnswerIn x a
 found-right x a e = subst (AnswerIn x) e (answers (scene x .pairs) (scene x .tables) (scene x .entries) 2 2 Privilege.Select (scene x .asked) (scene-low x))
-
-diamond : found Example.Diamond ≡ Answer.No Ground.Nothing
-diamond = refl

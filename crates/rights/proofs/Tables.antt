@@ -38,8 +38,8 @@ module _ (tables : Tables) where
   -- nothing is beneath a base table
   pub beneath-base : (b t : ℕ) → IsBase tables t → Beneath tables b t → ⊥
   beneath-base b t base q = let n = beneath-names q .1 in
-    let same : n .0 ≡ base .0 = some-same (n .0) (base .0) (sym (n .1) ∙ base .1) in
-    subst (In (beneath-names q .0)) (ap (λ r. r .names) same ∙ base .2) (n .2)
+      let same : n .0 ≡ base .0 = some-same (n .0) (base .0) (sym (n .1) ∙ base .1) in
+      subst (In (beneath-names q .0)) (ap (λ r. r .names) same ∙ base .2) (n .2)
 
   mutual
     pub level-unique : {t n m : ℕ} → Level tables t n → Level tables t m → n ≡ m
@@ -161,7 +161,7 @@ module _ (tables : Tables) where
   decides-beneath zero b t low = (λ e. absurd (true≢false (sym e)), λ q. let n = beneath-names tables q in absurd (low-names-none t (n .0) low (n .1)))
   decides-beneath (suc n) b t low = decides-like (beneath-test (suc n) b t) found sought
       (decides-some (λ d. (b ≡ d) ⊎ Beneath tables b d) (λ d. eqb b d || beneath-test n b d) (names-of (tables t))
-        (λ d i. decides-or (eqb b d) (beneath-test n b d) (decides-eqb b d) (decides-beneath n b d (low-named n t d low (in-names t d i)))))
+      (λ d i. decides-or (eqb b d) (beneath-test n b d) (decides-eqb b d) (decides-beneath n b d (low-named n t d low (in-names t d i)))))
     where
       found : (d : ℕ) × In d (names-of (tables t)) × ((b ≡ d) ⊎ Beneath tables b d) → Beneath tables b t
       found h = ⊎-elim (λ e. named (in-names t b (subst (λ x. In x (names-of (tables t))) (sym e) (h .1)))) (λ q. deeper (in-names t (h .0) (h .1)) q) (h .2)

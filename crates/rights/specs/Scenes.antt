@@ -43,52 +43,60 @@ one-base = with-base 5 1 no-tables
 abbrev pub scene : Example → Scene
 -- two ways lead from 2 to the plus of 12, and a minus stands on one of them: both apply
 scene Example.Diamond = record {
-    pairs = pair 2 10 ∷ pair 2 11 ∷ pair 10 12 ∷ pair 11 12 ∷ [];
-    tables = one-base;
-    entries = weak-minus 10 5 ∷ weak-plus 12 5 ∷ [];
-    asked = 5 }
+  pairs = pair 2 10 ∷ pair 2 11 ∷ pair 10 12 ∷ pair 11 12 ∷ [];
+  tables = one-base;
+  entries = weak-minus 10 5 ∷ weak-plus 12 5 ∷ [];
+  asked = 5;
+}
 -- the plus of 10 stands on one way to the minus of 11, and the direct way is free: both apply
 scene Example.Shortcut = record {
-    pairs = pair 2 10 ∷ pair 2 11 ∷ pair 10 11 ∷ [];
-    tables = one-base;
-    entries = weak-plus 10 5 ∷ weak-minus 11 5 ∷ [];
-    asked = 5 }
+  pairs = pair 2 10 ∷ pair 2 11 ∷ pair 10 11 ∷ [];
+  tables = one-base;
+  entries = weak-plus 10 5 ∷ weak-minus 11 5 ∷ [];
+  asked = 5;
+}
 -- the asker's own plus blocks the way to the minus of 10
 scene Example.OwnPlus = record {
-    pairs = pair 2 10 ∷ [];
-    tables = one-base;
-    entries = weak-plus 2 5 ∷ weak-minus 10 5 ∷ [];
-    asked = 5 }
+  pairs = pair 2 10 ∷ [];
+  tables = one-base;
+  entries = weak-plus 2 5 ∷ weak-minus 10 5 ∷ [];
+  asked = 5;
+}
 -- the plus of 10 does not block the way to the minus of 10 itself
 scene Example.BothSigns = record {
-    pairs = pair 2 10 ∷ pair 2 11 ∷ [];
-    tables = one-base;
-    entries = weak-plus 10 5 ∷ weak-minus 10 5 ∷ weak-plus 11 5 ∷ [];
-    asked = 5 }
+  pairs = pair 2 10 ∷ pair 2 11 ∷ [];
+  tables = one-base;
+  entries = weak-plus 10 5 ∷ weak-minus 10 5 ∷ weak-plus 11 5 ∷ [];
+  asked = 5;
+}
 -- the strong minus stands two levels beneath the view
 scene Example.TwoLevels = record {
-    pairs = [];
-    tables = with-view 7 1 6 (with-view 6 1 5 one-base);
-    entries = entry 2 Sign.Minus Strength.Strong 5 ∷ weak-plus 2 7 ∷ [];
-    asked = 7 }
+  pairs = [];
+  tables = with-view 7 1 6 (with-view 6 1 5 one-base);
+  entries = entry 2 Sign.Minus Strength.Strong 5 ∷ weak-plus 2 7 ∷ [];
+  asked = 7;
+}
 -- the owner of a base table needs no entry
 scene Example.OwnedTable = record {
-    pairs = [];
-    tables = with-base 5 2 no-tables;
-    entries = [];
-    asked = 5 }
+  pairs = [];
+  tables = with-base 5 2 no-tables;
+  entries = [];
+  asked = 5;
+}
 -- the owner of a view over another's table has nothing by owning it
 scene Example.OwnedView = record {
-    pairs = [];
-    tables = with-view 6 2 5 one-base;
-    entries = [];
-    asked = 6 }
+  pairs = [];
+  tables = with-view 6 2 5 one-base;
+  entries = [];
+  asked = 6;
+}
 -- unless the rules give yes on every table that it names
 scene Example.AllowedView = record {
-    pairs = [];
-    tables = with-view 6 2 5 one-base;
-    entries = weak-plus 2 5 ∷ [];
-    asked = 6 }
+  pairs = [];
+  tables = with-view 6 2 5 one-base;
+  entries = weak-plus 2 5 ∷ [];
+  asked = 6;
+}
 
 -- the rules answer so
 abbrev pub AnswerIn : Example → Answer → Type 0

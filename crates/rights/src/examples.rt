@@ -2,7 +2,7 @@
 use crate::commands::Answer;
 use crate::commands::Ground;
 ghost use Rattle.rights.specs.Scenes.{AnswerIn};
-ghost use Rattle.rights.specs.Laws.{One-answer, Reads-below};
+ghost use Rattle.rights.specs.Laws.{AccessLaws};
 
 // What person 2 is asked about: one question each.
 #[derive(Clone, Copy, PartialEq, Eq)]
@@ -18,12 +18,11 @@ pub enum Example {
 }
 
 impl Example {
-    // The answer of the rules. Every question has exactly one, and it reads only the tables and
-    // entries at the table asked about and beneath it.
+    // The answer of the rules, and the laws that hold of every question: it has exactly one answer,
+    // which reads only the tables and entries at the table asked about and beneath it.
     pub fn answer(self) -> Answer
         ensures right { λ r. ⌜ AnswerIn self r ⌝ }
-        ensures only { λ _. ⌜ One-answer ⌝ }
-        ensures reads { λ _. ⌜ Reads-below ⌝ }
+        ensures laws { λ _. ⌜ AccessLaws ⌝ }
     {
         match self {
             Example::Diamond => Answer::No(Ground::Nothing),

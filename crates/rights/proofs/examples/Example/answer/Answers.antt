@@ -2,14 +2,14 @@ use mathlib.Core.Path.{_≡_, refl, sym, subst, ap, _∙_}
 use Rattle.rights.specs.declared.commands.Answer.{Answer}
 use Rattle.rights.specs.declared.examples.Example.{Example}
 use Rattle.rights.specs.Scenes.{AnswerIn}
-use Rattle.rights.specs.Laws.{One-answer, Reads-below}
+use Rattle.rights.specs.Laws.{AccessLaws}
+use Rattle.rights.proofs.Laws.{access-laws}
 use Rattle.rights.proofs.Scenes.{found, found-right}
-use Rattle.rights.proofs.Reading.{one-answer, reads-below}
 use Rattle.rights.proofs.examples.Example.answer.Needs as need
 
 -- the state that the arm is for, and what the tests answer there
-answered : (x y : Example) (a : Answer) → x ≡ y → found y ≡ a → record { right : AnswerIn x a; only : One-answer; reads : Reads-below }
-answered x y a e k = record { right = found-right x a (ap found e ∙ k); only = one-answer; reads = reads-below }
+answered : (x y : Example) (a : Answer) → x ≡ y → found y ≡ a → record { right : AnswerIn x a; laws : AccessLaws }
+answered x y a e k = record { right = found-right x a (ap found e ∙ k); laws = access-laws }
 
 -- src/examples.rt:23:5
 pub returns-in-Diamond : need.returns-in-Diamond
