@@ -5,10 +5,9 @@ use Prim.Native.Nat.{ℕ}
 use native.Mathlib.Omega.{arith}
 use Rattle.std.specs.declared.option.Option.the-variants.{None}
 use Rattle.rights.specs.declared.commands.Answer.{Answer}
-use Rattle.rights.specs.declared.commands.Ground.{Ground}
-use Rattle.rights.specs.declared.examples.Example.{Example}
 use Rattle.rights.specs.declared.vocabulary.Privilege.{Privilege}
-use Rattle.rights.specs.Scenes.{scene, AnswerIn, one-base, with-base, with-view}
+use Rattle.rights.specs.Access.{Answers}
+use Rattle.rights.specs.Scenes.{Example, diamond, shortcut, own-plus, both-signs, two-levels, owned-table, owned-view, allowed-view, scene, right-answer, Examples-answered, one-base, with-base, with-view}
 use Rattle.rights.specs.Tables.{Tables, no-tables, level, over-none, over-more}
 use Rattle.rights.proofs.Access.{answer, answers}
 use Rattle.rights.proofs.Tables.{Low, low-none, low-made}
@@ -25,18 +24,30 @@ two-views-low = low-made (with-view 6 1 5 one-base) 7 (record { owner = 1; names
     (over-more (level refl (over-more (level refl over-none) over-none)) over-none) (omega arith)
 
 scene-low : (x : Example) → Low (scene x .tables) 2 (scene x .asked)
-scene-low Example.Diamond = base-low 5 1 5
-scene-low Example.Shortcut = base-low 5 1 5
-scene-low Example.OwnPlus = base-low 5 1 5
-scene-low Example.BothSigns = base-low 5 1 5
-scene-low Example.TwoLevels = two-views-low 7
-scene-low Example.OwnedTable = base-low 5 2 5
-scene-low Example.OwnedView = one-view-low 2 6
-scene-low Example.AllowedView = one-view-low 2 6
+scene-low diamond = base-low 5 1 5
+scene-low shortcut = base-low 5 1 5
+scene-low own-plus = base-low 5 1 5
+scene-low both-signs = base-low 5 1 5
+scene-low two-levels = two-views-low 7
+scene-low owned-table = base-low 5 2 5
+scene-low owned-view = one-view-low 2 6
+scene-low allowed-view = one-view-low 2 6
 
 -- what the tests answer
-abbrev pub found : Example → Answer
+abbrev found : Example → Answer
 found x = answer (scene x .pairs) (scene x .tables) (scene x .entries) 2 2 Privilege.Select (scene x .asked)
 
-pub found-right : (x : Example) (a : Answer) → found x ≡ a → AnswerIn x a
-found-right x a e = subst (AnswerIn x) e (answers (scene x .pairs) (scene x .tables) (scene x .entries) 2 2 Privilege.Select (scene x .asked) (scene-low x))
+found-right : (x : Example) → found x ≡ right-answer x
+found-right diamond = refl
+found-right shortcut = refl
+found-right own-plus = refl
+found-right both-signs = refl
+found-right two-levels = refl
+found-right owned-table = refl
+found-right owned-view = refl
+found-right allowed-view = refl
+
+pub examples-answered : Examples-answered
+examples-answered x =
+    subst (Answers (scene x .pairs) (scene x .tables) (scene x .entries) 2 Privilege.Select (scene x .asked)) (found-right x)
+    (answers (scene x .pairs) (scene x .tables) (scene x .entries) 2 2 Privilege.Select (scene x .asked) (scene-low x))

@@ -1,9 +1,9 @@
 // The vocabulary of the register: rights, entries, pairs, records, refusals and commands.
 mod commands;
 mod entries;
-mod examples;
 mod faults;
 mod records;
+mod theorems;
 mod vocabulary;
 
 pub use commands::Answer;
@@ -13,12 +13,13 @@ pub use commands::Named;
 pub use commands::State;
 pub use entries::Entry;
 pub use entries::Pair;
-pub use examples::Example;
 pub use faults::BookFault;
 pub use faults::RegisterFault;
 pub use faults::RollFault;
 pub use faults::SheetFault;
 pub use records::Subject;
+pub use theorems::access_examples;
+pub use theorems::access_laws;
 pub use vocabulary::Kind;
 pub use vocabulary::Privilege;
 pub use vocabulary::Rank;
