@@ -1,1 +1,12 @@
-pub mod Firsts
+pub mod Access
+pub mod Bits
+pub mod Checks
+pub mod Clash
+pub mod Deciding
+pub mod Holding
+pub mod Laws
+pub mod Order
+pub mod Reading
+pub mod Scenes
+pub mod Tables
+pub mod Within

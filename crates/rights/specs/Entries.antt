@@ -1,9 +1,12 @@
 -- The order of entries, and which entries a book may hold.
 -- Before: by subject, then table, then grantor, then bit number. Proper: every number is in its range.
+-- before and same-entry are the tests of the order and of equality.
 use mathlib.Core.Path.{_≡_}
+use mathlib.Core.Bool.{Bool, _&&_, _||_}
 use mathlib.Core.Logic.{_⊎_}
 use mathlib.Core.List.{List}
 use Prim.Native.Nat.{ℕ, _<_}
+use lib.Dec.{eqb, ltb}
 use Rattle.rights.specs.declared.entries.Entry.{Entry}
 use Rattle.rights.specs.Bits.{bit}
 use Rattle.rights.specs.Lists.{Rising}
@@ -22,3 +25,14 @@ Proper e = SubjectNumber (e .subject) × TableNumber (e .table) × SubjectNumber
 
 abbrev pub RisingEntries : List Entry → Type 0
 RisingEntries es = Rising Before es
+
+abbrev pub then-test : ℕ → ℕ → Bool → Bool
+then-test a b rest = ltb a b || (eqb a b && rest)
+
+-- the test of Before
+unfoldable pub before : Entry → Entry → Bool
+before e f = then-test (e .subject) (f .subject) (then-test (e .table) (f .table) (then-test (e .grantor) (f .grantor) (ltb (bit (e .right)) (bit (f .right)))))
+
+-- the test of e ≡ f; no two rights have one bit number
+unfoldable pub same-entry : Entry → Entry → Bool
+same-entry e f = eqb (e .subject) (f .subject) && (eqb (e .table) (f .table) && (eqb (e .grantor) (f .grantor) && eqb (bit (e .right)) (bit (f .right))))

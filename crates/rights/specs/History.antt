@@ -10,8 +10,8 @@ use Rattle.rights.specs.declared.records.Subject.{Subject}
 use Rattle.rights.specs.Chain.{Revoked}
 use Rattle.rights.specs.Entries.{Before}
 use Rattle.rights.specs.Lists.{Placed, Parted}
-use Rattle.rights.specs.Pairs.{PairBefore}
-use Rattle.rights.specs.Read.{mark-of, pair-of, access-entry, admin-entry, tables-in}
+use Rattle.rights.specs.Pairs.{pair, Before as PairBefore}
+use Rattle.rights.specs.Read.{mark-of, access-entry, admin-entry, tables-in}
 use Rattle.rights.specs.Subjects.{Subjects, no-subjects, enrolled}
 use Rattle.rights.specs.Tables.{Table, Tables, no-tables, made, unmade}
 
@@ -50,8 +50,8 @@ Becomes h (Command.User n c) struck h′ = (struck ≡ []) × (h′ ≡ with-sub
 Becomes h (Command.Group n) struck h′ = (struck ≡ []) × (h′ ≡ with-subjects (enrolled n Subject.Group (h .subjects)) h)
 Becomes h Command.Open struck h′ = (struck ≡ []) × (h′ ≡ h)
 Becomes h Command.Close struck h′ = (struck ≡ []) × (h′ ≡ h)
-Becomes h (Command.Admit i m g) struck h′ = (struck ≡ []) × ((ps : List Pair) × Placed PairBefore (pair-of m g) (h .pairs) ps × (h′ ≡ with-pairs ps h))
-Becomes h (Command.Remove i m g) struck h′ = (struck ≡ []) × ((ps : List Pair) × Placed PairBefore (pair-of m g) ps (h .pairs) × (h′ ≡ with-pairs ps h))
+Becomes h (Command.Admit i m g) struck h′ = (struck ≡ []) × ((ps : List Pair) × Placed PairBefore (pair m g) (h .pairs) ps × (h′ ≡ with-pairs ps h))
+Becomes h (Command.Remove i m g) struck h′ = (struck ≡ []) × ((ps : List Pair) × Placed PairBefore (pair m g) ps (h .pairs) × (h′ ≡ with-pairs ps h))
 Becomes h (Command.Base i t) struck h′ = (struck ≡ []) × (h′ ≡ with-tables (made t (record { owner = i; names = [] }) (h .tables)) h)
 Becomes h (Command.View i t d) struck h′ = (struck ≡ []) × (h′ ≡ with-tables (made t (record { owner = i; names = tables-in d }) (h .tables)) h)
 Becomes h (Command.Drop i t) struck h′ = (struck ≡ []) × ((kept : List Entry) × (out : List Entry) × Parted (λ (e : Entry). e .table ≡ t → ⊥) (h .entries) kept out × (h′ ≡ with-tables (unmade t (h .tables)) (with-entries kept h)))

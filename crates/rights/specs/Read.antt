@@ -5,7 +5,6 @@ use Prim.Native.Nat.{ℕ, zero, suc}
 use lib.ListN.{take}
 use Rattle.rights.specs.declared.commands.Named.{Named}
 use Rattle.rights.specs.declared.entries.Entry.{Entry}
-use Rattle.rights.specs.declared.entries.Pair.{Pair}
 use Rattle.rights.specs.declared.vocabulary.Kind.{Kind}
 use Rattle.rights.specs.declared.vocabulary.Privilege.{Privilege}
 use Rattle.rights.specs.declared.vocabulary.Rank.{Rank}
@@ -38,9 +37,6 @@ rank-of (suc n) = Rank.Strong
 abbrev pub mark-of : ℕ → Bool
 mark-of zero = false
 mark-of (suc n) = true
-
-abbrev pub pair-of : ℕ → ℕ → Pair
-pair-of m g = record { member = m; group = g }
 
 -- i grants s access: p, sign, t, strength
 abbrev pub access-entry : ℕ → ℕ → ℕ → ℕ → ℕ → ℕ → Entry

@@ -19,7 +19,8 @@ use Rattle.rights.specs.Cover.{Supported}
 use Rattle.rights.specs.History.{History}
 use Rattle.rights.specs.Lists.{In, Rising}
 use Rattle.rights.specs.Numbers.{IssuerNumber, SubjectNumber, TableNumber, PrivilegeNumber, FlagNumber}
-use Rattle.rights.specs.Read.{pair-of, access-entry, admin-entry, tables-in}
+use Rattle.rights.specs.Pairs.{pair}
+use Rattle.rights.specs.Read.{access-entry, admin-entry, tables-in}
 use Rattle.rights.specs.Subjects.{Subjects, Registered, IsPerson, IsGroup, IsCreator}
 use Rattle.rights.specs.Tables.{Tables, Stands, IsView, Owns, Names, LevelOver}
 use Rattle.rights.specs.Within.{Within}
@@ -128,10 +129,10 @@ module _ (lent : Lent) (h : History) where
       refuse RegisterFault.BadNumber (IssuerNumber i × SubjectNumber m × SubjectNumber g → ⊥) ∷
       refuse RegisterFault.Stranger (StrangeIssuer (h .subjects) i ⊎ ((Registered (h .subjects) m → ⊥) ⊎ (IsGroup (h .subjects) g → ⊥))) ∷
       refuse RegisterFault.NotTheirs (i ≡ 0 → ⊥) ∷
-      refuse (RegisterFault.Roll RollFault.Taken) (In (pair-of m g) (h .pairs)) ∷
+      refuse (RegisterFault.Roll RollFault.Taken) (In (pair m g) (h .pairs)) ∷
       refuse (RegisterFault.Roll RollFault.Loop) (Within (h .pairs) g m) ∷
       refuse (RegisterFault.Roll RollFault.Full) (length (h .pairs) ≡ lent .roll-ceiling) ∷
-      refuse RegisterFault.Clash (Clashing (pair-of m g ∷ h .pairs) (h .tables) (h .entries)) ∷
+      refuse RegisterFault.Clash (Clashing (pair m g ∷ h .pairs) (h .tables) (h .entries)) ∷
       []
 
   unfoldable pub remove-checks : ℕ → ℕ → ℕ → List (Check RegisterFault)
@@ -139,7 +140,7 @@ module _ (lent : Lent) (h : History) where
       refuse RegisterFault.BadNumber (IssuerNumber i × SubjectNumber m × SubjectNumber g → ⊥) ∷
       refuse RegisterFault.Stranger (StrangeIssuer (h .subjects) i ⊎ ((Registered (h .subjects) m → ⊥) ⊎ (IsGroup (h .subjects) g → ⊥))) ∷
       refuse RegisterFault.NotTheirs (i ≡ 0 → ⊥) ∷
-      refuse (RegisterFault.Roll RollFault.Absent) (In (pair-of m g) (h .pairs) → ⊥) ∷
+      refuse (RegisterFault.Roll RollFault.Absent) (In (pair m g) (h .pairs) → ⊥) ∷
       []
 
   -- Recipient: what the subject of such an entry must be registered as; InRange: the numbers of the right

@@ -3,6 +3,7 @@ mod commands;
 mod entries;
 mod faults;
 mod records;
+mod theorems;
 mod vocabulary;
 
 pub use commands::Answer;
@@ -18,6 +19,8 @@ pub use faults::RollFault;
 pub use faults::SheetFault;
 pub use records::Subject;
 pub use records::TableRecord;
+pub use theorems::access_examples;
+pub use theorems::access_laws;
 pub use vocabulary::Kind;
 pub use vocabulary::Privilege;
 pub use vocabulary::Rank;

@@ -6,7 +6,8 @@ use Rattle.std.proofs.shelf.Ways.{not-from-decides}
 use Rattle.rights.specs.declared.records.TableRecord.{TableRecord}
 use Rattle.rights.specs.Refusals.{WellMade, view-checks}
 use Rattle.rights.specs.Tables.{Table}
-use Rattle.rights.proofs.Firsts.{first-here, first-later, first-none}
+use Rattle.std.specs.declared.option.Option.the-variants.{None}
+use Rattle.rights.proofs.Checks.{first-hit, first-miss, first-none}
 use Rattle.register.specs.Catalogue.{Tabled}
 use Rattle.register.specs.Rows.{table-of, stand, rise, level-over}
 use Rattle.register.proofs.Levels.{free-from, creator-from, stand-from, rise-decides, over-only}
@@ -17,7 +18,7 @@ use Rattle.register.proofs.catalogue.Catalogue.view.Needs.{then-i-gt255·by·t
 pub returns-then-i-gt255 : need.returns-then-i-gt255
 unfolding view-checks
 returns-then-i-gt255 c = record {
-  verdict = first-here _ _ (λ good. elim (c .then-i-gt255 .came) [
+  verdict = first-hit _ _ (λ good. elim (c .then-i-gt255 .came) [
     | then-i-gt255·by·then-i-gt255 w ↦ omega arith
     | then-i-gt255·by·else-i-gt255·then-t-gt127 w ↦ omega arith
     | then-i-gt255·by·else-i-gt255·else-t-gt127·then-not-all-tables w ↦ not-from-decides _ (w .all-tables .ensures) (w .if-not-all-tables .taken) (good .2)
@@ -28,35 +29,35 @@ returns-then-i-gt255 c = record {
 pub returns-then-is-strange : need.returns-then-is-strange
 unfolding view-checks
 returns-then-is-strange c = record {
-  verdict = first-later _ _ _ (λ bad. bad (omega arith, omega arith, c .all-tables .ensures .0 (c .if-not-all-tables .left))) (first-here _ _ (c .is-strange .ensures .0 (c .if-is-strange .taken)));
+  verdict = first-miss _ _ _ (λ bad. bad (omega arith, omega arith, c .all-tables .ensures .0 (c .if-not-all-tables .left))) (first-hit _ _ (c .is-strange .ensures .0 (c .if-is-strange .taken)));
   effect = refl;
 }
 
 pub returns-then-not-all-stand : need.returns-then-not-all-stand
 unfolding view-checks
 returns-then-not-all-stand c = record {
-  verdict = first-later _ _ _ (λ bad. bad (omega arith, omega arith, c .all-tables .ensures .0 (c .if-not-all-tables .left))) (first-later _ _ _ (not-from-decides _ (c .is-strange .ensures) (c .if-is-strange .left)) (first-here _ _ (not-from-decides _ (c .all-stand .ensures) (c .if-not-all-stand .taken))));
+  verdict = first-miss _ _ _ (λ bad. bad (omega arith, omega arith, c .all-tables .ensures .0 (c .if-not-all-tables .left))) (first-miss _ _ _ (not-from-decides _ (c .is-strange .ensures) (c .if-is-strange .left)) (first-hit _ _ (not-from-decides _ (c .all-stand .ensures) (c .if-not-all-stand .taken))));
   effect = refl;
 }
 
 pub returns-then-lacks-mark : need.returns-then-lacks-mark
 unfolding view-checks
 returns-then-lacks-mark c = record {
-  verdict = first-later _ _ _ (λ bad. bad (omega arith, omega arith, c .all-tables .ensures .0 (c .if-not-all-tables .left))) (first-later _ _ _ (not-from-decides _ (c .is-strange .ensures) (c .if-is-strange .left)) (first-later _ _ _ (λ missing. missing (c .all-stand .ensures .0 (c .if-not-all-stand .left))) (first-here _ _ (c .lacks-mark .ensures .0 (c .if-lacks-mark .taken)))));
+  verdict = first-miss _ _ _ (λ bad. bad (omega arith, omega arith, c .all-tables .ensures .0 (c .if-not-all-tables .left))) (first-miss _ _ _ (not-from-decides _ (c .is-strange .ensures) (c .if-is-strange .left)) (first-miss _ _ _ (λ missing. missing (c .all-stand .ensures .0 (c .if-not-all-stand .left))) (first-hit _ _ (c .lacks-mark .ensures .0 (c .if-lacks-mark .taken)))));
   effect = refl;
 }
 
 pub returns-then-stands : need.returns-then-stands
 unfolding view-checks
 returns-then-stands c = record {
-  verdict = first-later _ _ _ (λ bad. bad (omega arith, omega arith, c .all-tables .ensures .0 (c .if-not-all-tables .left))) (first-later _ _ _ (not-from-decides _ (c .is-strange .ensures) (c .if-is-strange .left)) (first-later _ _ _ (λ missing. missing (c .all-stand .ensures .0 (c .if-not-all-stand .left))) (first-later _ _ _ (not-from-decides _ (c .lacks-mark .ensures) (c .if-lacks-mark .left)) (first-here _ _ (c .stands .ensures .0 (c .if-stands .taken))))));
+  verdict = first-miss _ _ _ (λ bad. bad (omega arith, omega arith, c .all-tables .ensures .0 (c .if-not-all-tables .left))) (first-miss _ _ _ (not-from-decides _ (c .is-strange .ensures) (c .if-is-strange .left)) (first-miss _ _ _ (λ missing. missing (c .all-stand .ensures .0 (c .if-not-all-stand .left))) (first-miss _ _ _ (not-from-decides _ (c .lacks-mark .ensures) (c .if-lacks-mark .left)) (first-hit _ _ (c .stands .ensures .0 (c .if-stands .taken))))));
   effect = refl;
 }
 
 pub returns-then-not-well-made : need.returns-then-not-well-made
 unfolding view-checks
 returns-then-not-well-made c = record {
-  verdict = first-later _ _ _ (λ bad. bad (omega arith, omega arith, c .all-tables .ensures .0 (c .if-not-all-tables .left))) (first-later _ _ _ (not-from-decides _ (c .is-strange .ensures) (c .if-is-strange .left)) (first-later _ _ _ (λ missing. missing (c .all-stand .ensures .0 (c .if-not-all-stand .left))) (first-later _ _ _ (not-from-decides _ (c .lacks-mark .ensures) (c .if-lacks-mark .left)) (first-later _ _ _ (not-from-decides _ (c .stands .ensures) (c .if-stands .left)) (first-here _ _ (not-from-decides _ (c .well-made .ensures) (c .if-not-well-made .taken)))))));
+  verdict = first-miss _ _ _ (λ bad. bad (omega arith, omega arith, c .all-tables .ensures .0 (c .if-not-all-tables .left))) (first-miss _ _ _ (not-from-decides _ (c .is-strange .ensures) (c .if-is-strange .left)) (first-miss _ _ _ (λ missing. missing (c .all-stand .ensures .0 (c .if-not-all-stand .left))) (first-miss _ _ _ (not-from-decides _ (c .lacks-mark .ensures) (c .if-lacks-mark .left)) (first-miss _ _ _ (not-from-decides _ (c .stands .ensures) (c .if-stands .left)) (first-hit _ _ (not-from-decides _ (c .well-made .ensures) (c .if-not-well-made .taken)))))));
   effect = refl;
 }
 
@@ -91,6 +92,6 @@ unfolding view-checks
 returns c =
     let is : table-of (c .view-record .result) ≡ record { owner = c .args .i; names = c .args .names .now } = λ k. record { owner = c .view-record .ensures .owner k; names = c .view-record .ensures .names k } in
     record {
-      verdict = first-later _ _ _ (λ bad. bad (omega arith, omega arith, c .all-tables .ensures .0 (c .if-not-all-tables .left))) (first-later _ _ _ (not-from-decides _ (c .is-strange .ensures) (c .if-is-strange .left)) (first-later _ _ _ (λ missing. missing (c .all-stand .ensures .0 (c .if-not-all-stand .left))) (first-later _ _ _ (not-from-decides _ (c .lacks-mark .ensures) (c .if-lacks-mark .left)) (first-later _ _ _ (not-from-decides _ (c .stands .ensures) (c .if-stands .left)) (first-later _ _ _ (λ ill. ill (c .well-made .ensures .0 (c .if-not-well-made .left))) (first-none _))))));
+      verdict = first-miss _ _ _ (λ bad. bad (omega arith, omega arith, c .all-tables .ensures .0 (c .if-not-all-tables .left))) (first-miss _ _ _ (not-from-decides _ (c .is-strange .ensures) (c .if-is-strange .left)) (first-miss _ _ _ (λ missing. missing (c .all-stand .ensures .0 (c .if-not-all-stand .left))) (first-miss _ _ _ (not-from-decides _ (c .lacks-mark .ensures) (c .if-lacks-mark .left)) (first-miss _ _ _ (not-from-decides _ (c .stands .ensures) (c .if-stands .left)) (first-miss _ _ _ (λ ill. ill (c .well-made .ensures .0 (c .if-not-well-made .left))) (first-none None refl))))));
       effect = subst (λ (r : Table). Tabled (c .args .t) r (c .args .self .now) (c .add .last .self)) is (c .add .ensures);
     }
