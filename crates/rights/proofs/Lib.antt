@@ -8,5 +8,6 @@ pub mod Laws
 pub mod Order
 pub mod Reading
 pub mod Scenes
+pub mod Steps
 pub mod Tables
 pub mod Within

@@ -1,5 +1,7 @@
 // The refusals of each layer. A fault from below stands whole inside that of the layer above.
 ghost use mathlib.Core.Path.{_≡_};
+ghost use Rattle.rights.specs.declared.faults.RegisterFault.the-variants.{Book, Roll};
+ghost use Rattle.rights.specs.declared.faults.SheetFault.the-variants.{Register};
 ghost use Rattle.rights.specs.Faults.{book-number, roll-number, register-number, register-layer, number as sheet-number, layer as sheet-layer};
 
 // What a book refuses.
@@ -135,5 +137,30 @@ impl SheetFault {
             SheetFault::Unreadable | SheetFault::OutOfTurn => 1,
             SheetFault::Register(fault) => fault.layer(),
         }
+    }
+}
+
+// A fault passes up whole, by `?`.
+pub impl From<BookFault> for RegisterFault as RegisterFaultFromBook {
+    ghost converts = { λ f r. r ≡ Book f };
+
+    fn from(fault: BookFault) -> RegisterFault {
+        RegisterFault::Book(fault)
+    }
+}
+
+pub impl From<RollFault> for RegisterFault as RegisterFaultFromRoll {
+    ghost converts = { λ f r. r ≡ Roll f };
+
+    fn from(fault: RollFault) -> RegisterFault {
+        RegisterFault::Roll(fault)
+    }
+}
+
+pub impl From<RegisterFault> for SheetFault as SheetFaultFromRegister {
+    ghost converts = { λ f r. r ≡ Register f };
+
+    fn from(fault: RegisterFault) -> SheetFault {
+        SheetFault::Register(fault)
     }
 }
