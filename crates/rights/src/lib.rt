@@ -8,6 +8,8 @@ mod theorems;
 mod vocabulary;
 
 pub use commands::Answer;
+pub use commands::AnswerDebug;
+pub use commands::AnswerPartialEq;
 pub use commands::Command;
 pub use commands::Ground;
 pub use commands::Named;
@@ -16,6 +18,8 @@ pub use entries::Entry;
 pub use entries::Pair;
 pub use faults::BookFault;
 pub use faults::RegisterFault;
+pub use faults::RegisterFaultDebug;
+pub use faults::RegisterFaultPartialEq;
 pub use faults::RegisterFaultFromBook;
 pub use faults::RegisterFaultFromRoll;
 pub use faults::RollFault;
