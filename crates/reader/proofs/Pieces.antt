@@ -1,18 +1,21 @@
 -- The laws of lines and of parts: what one byte 10, or one space, cuts off. Assumes nothing.
 use mathlib.Core.Path.{_≡_, refl, sym, ap, _∙_}
 use mathlib.Core.List.{List, [], _∷_, _++_}
+use mathlib.Core.Bool.{cond}
 use mathlib.Core.Logic.{⊎-elim}
 use Prim.Native.Nat.{ℕ, _+_, _-_, _≤_, _<_, min}
 use native.Mathlib.Omega.{arith}
-use lib.Dec.{eqb}
+use lib.Dec.{eqb, ltb}
 use lib.ListN.{length, getD, take, drop}
 use Rattle.std.specs.shelf.Lists.{All}
 use Rattle.std.specs.Holes.{between}
 use Rattle.std.proofs.shelf.Edits.{length-between}
 use Rattle.std.proofs.shelf.Elements.{all-from-getD}
-use Rattle.std.proofs.shelf.Lists.{append-nil, getD-take, getD-drop, take-append-drop, drop-drop, drop-more, drop-all}
-use Rattle.std.proofs.shelf.Tests.{ne-eqb, cond-false, cases-lt}
+use Rattle.std.proofs.shelf.Lists.{append-nil, getD-take, getD-drop, take-append-drop, drop-drop, drop-more, drop-all, length-drop, take-take}
+use Rattle.std.proofs.shelf.Parts.{between-is}
+use Rattle.std.proofs.shelf.Tests.{ne-eqb, lt-ltb, le-ltb, cond-true, cond-false, cases-lt}
 use Rattle.reader.specs.Lines.{Without, onto, lines, parts}
+use Rattle.reader.specs.Reading.{Stands}
 
 pub lines-none : lines [] ≡ []
 unfolding lines
@@ -81,3 +84,28 @@ next-line bytes i j n run some e = ⊎-elim within ended (cases-lt j (length byt
     ended h =
         let none : lines (drop n bytes) ≡ [] = ap lines (drop-all n bytes (omega arith)) ∙ lines-none in
         ap lines (run-end run h) ∙ last (between i j bytes) (run-without run) (omega (arith, run-length run)) ∙ ap (λ ls. between i j bytes ∷ ls) (sym none)
+
+-- what is left of a line where the next part ends at j
+pub next-part : (line : List ℕ) (i j n : ℕ) → Run line i j 32 → n ≡ min (length line) (j + 1) → parts (drop i line) ≡ between i j line ∷ cond (ltb j (length line)) (parts (drop n line)) []
+next-part line i j n run e = ⊎-elim within ended (cases-lt j (length line))
+  where
+    within : j < length line → parts (drop i line) ≡ between i j line ∷ cond (ltb j (length line)) (parts (drop n line)) []
+    within h =
+        let there : j + 1 ≡ n = omega arith in
+        ap parts (run-stop run h) ∙ parts-spaced (between i j line) (drop (j + 1) line) (run-without run) ∙ ap (λ k. between i j line ∷ parts (drop k line)) there ∙ ap (λ ps. between i j line ∷ ps) (sym (cond-true (ltb j (length line)) _ _ (lt-ltb j (length line) h)))
+
+    ended : length line ≤ j → parts (drop i line) ≡ between i j line ∷ cond (ltb j (length line)) (parts (drop n line)) []
+    ended h =
+        ap parts (run-end run h) ∙ parts-last (between i j line) (run-without run) ∙ ap (λ ps. between i j line ∷ ps) (sym (cond-false (ltb j (length line)) _ _ (le-ltb j (length line) h)))
+
+-- what stands in a part of some bytes stands in these, as much further on as the part does
+pub stands-within : (bytes line part : List ℕ) (at i : ℕ) → Stands bytes at line → Stands line i part → Stands bytes (at + i) part
+stands-within bytes line part at i outer inner =
+    (there ∙ inner .0, omega (arith, outer .1, inner .1))
+  where
+    long : length line - i ≡ length (drop i line)
+    long = sym (length-drop i line)
+
+    there : take (length part) (drop (at + i) bytes) ≡ take (length part) (drop i line)
+    there =
+        ap (take (length part)) (sym (drop-drop i at bytes)) ∙ sym (take-take (length part) (length line - i) (drop i (drop at bytes)) (omega (arith, inner .1))) ∙ ap (take (length part)) (between-is (drop at bytes) i (length line) ∙ ap (drop i) (outer .0))

@@ -1,2 +1,4 @@
+pub mod Exactly
 pub mod Lines
 pub mod Reading
+pub mod Words

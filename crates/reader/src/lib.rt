@@ -1,8 +1,12 @@
 // Reads the bytes of a sheet into commands, and writes the text of answers.
 mod lines;
 mod shapes;
+mod words;
 
+pub use lines::LONGEST;
+pub use lines::fits;
 pub use shapes::Line;
 pub use shapes::Part;
 pub use shapes::Parts;
 pub use shapes::Reader;
+pub use words::Word;
