@@ -1,5 +1,6 @@
 // Reads the bytes of a sheet into commands, and writes the text of answers.
 mod lines;
+mod numbers;
 mod shapes;
 mod words;
 
