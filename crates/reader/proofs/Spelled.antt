@@ -16,8 +16,11 @@ use Rattle.reader.specs.Words.{text}
 pub exactly-some : {X : Type 0} (P : X → Type 0) (x : X) → P x → ((y : X) → P y → x ≡ y) → Exactly (Some x) P
 exactly-some P x here once y = (λ e. let same : x ≡ y = cc in rw (← same) here, λ h. ap Some (once y h))
 
+pub none-some : {X : Type 0} (x : X) → None ≡ Some x → ⊥
+none-some x e = let z : _≡_ {A = ℕ} 0 1 = cc in omega arith
+
 pub exactly-none : {X : Type 0} (P : X → Type 0) → ((y : X) → P y → ⊥) → Exactly None P
-exactly-none P never y = (λ e. let z : _≡_ {A = ℕ} 0 1 = cc in absurd (omega arith), λ h. absurd (never y h))
+exactly-none P never y = (λ e. absurd (none-some y e), λ h. absurd (never y h))
 
 -- the first word of a list that is written so
 abbrev among : List ℕ → List Word → Option Word

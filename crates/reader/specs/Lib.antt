@@ -1,4 +1,5 @@
 pub mod Exactly
 pub mod Lines
 pub mod Reading
+pub mod Spelling
 pub mod Words

@@ -1,4 +1,5 @@
 // Reads the bytes of a sheet into commands, and writes the text of answers.
+mod commands;
 mod lines;
 mod numbers;
 mod shapes;
