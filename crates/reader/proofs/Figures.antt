@@ -54,3 +54,7 @@ module _ (bs : List ℕ) where
       let small = value-small bs digits short in
       let written = decimal-value own bs digits some first (omega arith) in
       exactly-some (Reads bs) (value 10 bs) (small, written) (λ n h. same-from-decimal _ n (omega arith) (omega (arith, h .0)) (written ∙ sym (h .1)))
+
+-- each byte of a number is a digit
+pub figure-at : (n i : ℕ) → n ≤ 999 → i < length (decimal n) → In 48 57 (getD (decimal n) i 0)
+figure-at n i small within = digit-at (decimal n) i (digits-decimal own n (omega arith)) within

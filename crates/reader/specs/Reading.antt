@@ -1,12 +1,15 @@
 -- What a reader gives, one line after the other, and where it then stands.
 use mathlib.Core.Path.{_≡_}
 use mathlib.Core.Bool.{cond}
-use mathlib.Core.List.{List, [], _∷_}
+use mathlib.Core.List.{List, [], _∷_, map}
 use Prim.Native.Nat.{ℕ, _+_, _≤_, _<_, min}
 use lib.Dec.{ltb}
 use lib.ListN.{length, take, drop}
+use Rattle.std.specs.Written.{decimal}
+use Rattle.std.specs.shelf.Lists.{All}
 use Rattle.reader.specs.declared.shapes.Reader.{Reader}
 use Rattle.reader.specs.declared.shapes.Line.{Line}
+use Rattle.reader.specs.declared.shapes.Numbers.{Numbers}
 use Rattle.reader.specs.declared.shapes.Part.{Part}
 use Rattle.reader.specs.declared.shapes.Parts.{Parts}
 use Rattle.reader.specs.Lines.{lines, parts}
@@ -69,3 +72,12 @@ pub record NextPart (p : Parts) (x : Part) (q : Parts) : Type 0 where
   pub same : q .line .now ≡ p .line .now
   pub past : q .at ≡ min (length (p .line .now)) (x .at + length (x .bytes .now) + 1)
   pub last : q .more ≡ ltb (x .at + length (x .bytes .now)) (length (p .line .now))
+
+abbrev pub counted : Numbers → List ℕ
+counted n = take (n .count) (n .values)
+
+-- the parts ps are the numbers ns, at most sixteen and each of at most three digits
+pub record Numbered (ps : List (List ℕ)) (ns : List ℕ) : Type 0 where
+  pub digits : map decimal ns ≡ ps
+  pub short : All (λ n. n ≤ 999) ns
+  pub few : length ns ≤ 16

@@ -1,10 +1,12 @@
 // The commands of a sheet, made from a word and its numbers.
+use crate::numbers::numbers;
+use crate::shapes::Line;
 use crate::words::Word;
 use rights::Command;
 use rights::Named;
 ghost use mathlib.Core.Path.{_≡_};
 ghost use Rattle.reader.specs.Exactly.{Exactly};
-ghost use Rattle.reader.specs.Spelling.{word as word-of, numbers as numbers-of, tables as tables-of, Padded, PaddedView};
+ghost use Rattle.reader.specs.Spelling.{word as word-of, numbers as numbers-of, tables as tables-of, written, Padded, PaddedView, Plain};
 
 // The tables of a view, if they are not too many.
 pub(crate) fn named(list: &[u16]) -> Option<Named>
@@ -73,5 +75,26 @@ pub(crate) fn command_of(word: Word, list: &[u16]) -> Option<Command>
         }),
         (Word::May, &[u, p, t]) => Some(Command::May { u, p, t }),
         _ => None,
+    }
+}
+
+// The longest line that is read, without its end byte.
+pub const LONGEST_LINE: usize = 80;
+
+impl Line<'_> {
+    // The command that the line is, if it is one.
+    pub fn command(&self) -> Option<Command>
+        ensures { λ r. ⌜ Exactly r (λ c. Plain c × (written c ≡ now (now (self .entry) .bytes))) ⌝ }
+    {
+        if self.bytes.len() > LONGEST_LINE {
+            return None;
+        }
+        let mut parts = self.parts();
+        let Some(first) = parts.next_part() else {
+            return None;
+        };
+        let word = first.word()?;
+        let rest = numbers(&mut parts)?;
+        command_of(word, rest.list())
     }
 }

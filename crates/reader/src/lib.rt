@@ -5,6 +5,7 @@ mod numbers;
 mod shapes;
 mod words;
 
+pub use commands::LONGEST_LINE;
 pub use lines::LONGEST;
 pub use lines::fits;
 pub use shapes::Line;

@@ -37,3 +37,11 @@ pub struct Part<'a> {
     pub at: usize,
     pub bytes: &'a [u8],
 }
+
+// The numbers of a line: the first `count` of the list.
+#[derive(Clone, Copy)]
+pub(crate) struct Numbers {
+    pub(crate) count: usize,
+    pub(crate) values: [u16; 16],
+    ghost few: { count ≤ 16 },
+}
