@@ -2,14 +2,15 @@
 use mathlib.Core.Path.{_≡_, sym, ap, subst, _∙_}
 use mathlib.Core.Logic.{_⊎_, ⊎-elim}
 use mathlib.Core.List.{List, [], _∷_}
-use Prim.Native.Nat.{ℕ, _+_, _^_, _≤_, _<_}
+use Prim.Native.Nat.{ℕ, _+_, _/_, _%_, _^_, _≤_, _<_}
 use native.Mathlib.Omega.{arith}
 use lib.ListN.{length, getD, take, length-take}
 use Rattle.std.specs.declared.option.Option.the-variants.{Some, None}
 use Rattle.std.specs.Reads.{Digits, value}
 use Rattle.std.specs.Text.{In}
 use Rattle.std.specs.Written.{decimal}
-use Rattle.std.proofs.shelf.Decimals.{decimal-digit, length-decimal-le, decimal-some, first-decimal, digits-decimal, same-from-decimal, decimal-value}
+use Rattle.std.proofs.shelf.Decimals.{decimal-digit, decimal-step, length-decimal-le, decimal-some, first-decimal, digits-decimal, same-from-decimal, decimal-value}
+use Rattle.std.proofs.shelf.Lists.{length-push}
 use Rattle.std.proofs.shelf.Numerals.{Numerals, numerals-by-value, tells-digits, digit-at, value-short}
 use Rattle.std.proofs.shelf.Tests.{cases-lt}
 use Rattle.reader.specs.Exactly.{Exactly}
@@ -58,3 +59,6 @@ module _ (bs : List ℕ) where
 -- each byte of a number is a digit
 pub figure-at : (n i : ℕ) → n ≤ 999 → i < length (decimal n) → In 48 57 (getD (decimal n) i 0)
 figure-at n i small within = digit-at (decimal n) i (digits-decimal own n (omega arith)) within
+
+pub length-decimal-step : (n : ℕ) → 10 ≤ n → n < 2 ^ 64 → length (decimal n) ≡ length (decimal (n / 10)) + 1
+length-decimal-step n more small = ap length (decimal-step n more small) ∙ length-push (decimal (n / 10)) (48 + n % 10)

@@ -157,10 +157,10 @@ made c w ns same long reads p =
 pub named-made : (d : Named) (list : List ℕ) → d .count ≡ length list → d .tables ≡ list ++ drop (length list) (replicate 14 0) → Exactly (Some d) (λ x. (tables x ≡ list) × Padded x)
 named-made d list count places =
     let short = d .few in
-    let filled : drop (length list) (replicate 14 0) ≡ replicate (14 - length list) 0 = drop-replicate (length list) 14 0 in
+    let filled : drop (length list) (replicate 14 0) ≡ replicate {A = ℕ} (14 - length list) 0 = drop-replicate (length list) 14 0 in
     let front : tables d ≡ list = (λ i. take (count i) (places i)) ∙ take-at list (drop (length list) (replicate 14 0)) (length list) refl in
     let padded : Padded d = record {
-      whole = ap length places ∙ length-append list _ ∙ ap (λ r. length list + length r) filled ∙ ap (λ n. length list + n) (length-replicate (14 - length list) 0) ∙ omega arith;
+      whole = ap length places ∙ length-append list _ ∙ omega (arith, ap length filled, length-replicate {A = ℕ} (14 - length list) 0);
       unused = (λ i. drop (count i) (places i)) ∙ drop-at list (drop (length list) (replicate 14 0)) (length list) refl ∙ filled ∙ ap (λ n. replicate (14 - n) 0) (sym count);
     } in
     exactly-some (λ x. (tables x ≡ list) × Padded x) d (front, padded) (λ x h. same-named d x (front ∙ sym (h .0)) padded (h .1))

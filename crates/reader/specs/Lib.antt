@@ -1,3 +1,4 @@
+pub mod Answers
 pub mod Exactly
 pub mod Lines
 pub mod Reading

@@ -5,6 +5,9 @@ use crate::words::Word;
 use rights::Command;
 use rights::Named;
 ghost use mathlib.Core.Path.{_≡_};
+ghost use Prim.Native.Nat.{_<_};
+ghost use lib.ListN.{length};
+ghost use Rattle.std.specs.declared.option.Option.the-variants.{None};
 ghost use Rattle.reader.specs.Exactly.{Exactly};
 ghost use Rattle.reader.specs.Spelling.{word as word-of, numbers as numbers-of, tables as tables-of, written, Padded, PaddedView, Plain};
 
@@ -84,7 +87,8 @@ pub const LONGEST_LINE: usize = 80;
 impl Line<'_> {
     // The command that the line is, if it is one.
     pub fn command(&self) -> Option<Command>
-        ensures { λ r. ⌜ Exactly r (λ c. Plain c × (written c ≡ now (now (self .entry) .bytes))) ⌝ }
+        ensures exactly { λ r. ⌜ Exactly r (λ c. Plain c × (written c ≡ now (now (self .entry) .bytes))) ⌝ }
+        ensures long { λ r. ⌜ (80 < length (now (now (self .entry) .bytes)) → r ≡ None) ⌝ }
     {
         if self.bytes.len() > LONGEST_LINE {
             return None;
