@@ -84,7 +84,10 @@ fn by_commands(rt: &impl Print) -> io::Result<()> {
     let (sitting, made) = make_table(sitting, &mut catalogue);
     let (sitting, ended) = end(sitting, &mut catalogue);
     let (_, late) = make_table(sitting, &mut catalogue);
-    println!(rt, "before opening {early}, open {made}, closed {ended}, after closing {late}")
+    println!(
+        rt,
+        "before opening {early}, open {made}, closed {ended}, after closing {late}"
+    )
 }
 
 fn main(rt: LibcRuntime) -> io::Result<()> {

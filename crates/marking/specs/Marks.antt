@@ -23,7 +23,7 @@ pub data LineAnswered (state : State) (h : History) (line : List ℕ) (a : Answe
 pub data Answers : State → History → List (List ℕ) → List Answer → Type 0 where
   none : {state : State} {h : History} → Answers state h [] []
   more : {state state′ : State} {h h′ : History} {line : List ℕ} {rest : List (List ℕ)} {a : Answer} {answers : List Answer} →
-    LineAnswered state h line a state′ h′ → Answers state′ h′ rest answers → Answers state h (line ∷ rest) (a ∷ answers)
+      LineAnswered state h line a state′ h′ → Answers state′ h′ rest answers → Answers state h (line ∷ rest) (a ∷ answers)
 
 -- the texts of the answers, from line n on
 abbrev pub texts : ℕ → List Answer → List ℕ
