@@ -35,13 +35,6 @@ impl SettingUp {
         SettingUp { carried: 0 }
     }
 
-    // How many commands were carried out; it stops at the largest number of its type.
-    pub fn carried(&self) -> u32
-        ensures { λ r. ⌜ r ≡ now (self .entry) .carried ⌝ }
-    {
-        self.carried
-    }
-
     // Registers person n, with the creator's mark where c is 1.
     pub fn user(&mut self, catalogue: &mut Catalogue, n: u16, c: u16) -> Result<(), RegisterFault>
         ensures verdict { λ r. ⌜ First (user-checks (subjects-in (now (catalogue .entry))) n c) (fault-of r) ⌝ }
@@ -80,13 +73,6 @@ impl SettingUp {
 }
 
 impl Open {
-    // How many commands were carried out; it stops at the largest number of its type.
-    pub fn carried(&self) -> u32
-        ensures { λ r. ⌜ r ≡ now (self .entry) .carried ⌝ }
-    {
-        self.carried
-    }
-
     // Makes base table t with owner i.
     pub fn base(&mut self, catalogue: &mut Catalogue, i: u16, t: u16) -> Result<(), RegisterFault>
         ensures verdict { λ r. ⌜ First (base-checks (subjects-in (now (catalogue .entry))) (tables-in (now (catalogue .entry))) i t) (fault-of r) ⌝ }
@@ -126,10 +112,11 @@ impl Open {
 }
 
 impl Closed {
-    // How many commands were carried out; it stops at the largest number of its type.
+    // How many commands the sitting has carried out; it stops at the largest number of its type.
     pub fn carried(&self) -> u32
         ensures { λ r. ⌜ r ≡ now (self .entry) .carried ⌝ }
     {
-        self.carried
+        let Closed { carried } = self;
+        *carried
     }
 }
