@@ -1,6 +1,7 @@
 // A sitting in whichever state it is, and the call that carries out one command.
 ghost use mathlib.Core.Path.{_≡_};
 ghost use mathlib.Core.Bool.{true};
+ghost use Rattle.std.specs.Results.{Cases};
 ghost use Rattle.sitting.specs.Today.{runs, state-of, carried-in, history-of, answer-of, Answered, Tallied};
 use crate::states::Closed;
 use crate::states::Open;
@@ -10,6 +11,7 @@ use rights::Answer;
 use rights::Command;
 use rights::RegisterFault;
 use rights::SheetFault;
+use rights::SheetFaultFromRegister;
 use rights::State;
 
 #[derive(Drop)]
@@ -68,12 +70,20 @@ fn is_known(command: &Command) -> bool
     }
 }
 
+// The register's fault passes up whole into the sheet's.
+fn carried_out(done: Result<(), RegisterFault>) -> Result<Answer, SheetFault>
+    ensures { λ r. ⌜ Cases r (λ a. a ≡ answer-of done) (λ f. Answer.Refused f ≡ answer-of done) ⌝ }
+{
+    done?;
+    Ok(Answer::Done)
+}
+
 fn answer_to(done: Result<(), RegisterFault>) -> Answer
     ensures { λ r. ⌜ r ≡ answer-of done ⌝ }
 {
-    match done {
-        Ok(_) => Answer::Done,
-        Err(fault) => Answer::Refused(SheetFault::Register(fault)),
+    match carried_out(done) {
+        Ok(answer) => answer,
+        Err(fault) => Answer::Refused(fault),
     }
 }
 
