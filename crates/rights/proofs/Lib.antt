@@ -3,6 +3,7 @@ pub mod Bits
 pub mod Checks
 pub mod Clash
 pub mod Deciding
+pub mod Grounds
 pub mod Holding
 pub mod Laws
 pub mod Order
