@@ -4,6 +4,7 @@ pub mod Checks
 pub mod Clash
 pub mod Deciding
 pub mod Grounds
+pub mod Growing
 pub mod Holding
 pub mod Laws
 pub mod Order
