@@ -1,4 +1,5 @@
 pub mod Access
+pub mod AccessLaws
 pub mod Bits
 pub mod Checks
 pub mod Clash
@@ -6,7 +7,6 @@ pub mod Deciding
 pub mod Grounds
 pub mod Growing
 pub mod Holding
-pub mod Laws
 pub mod Order
 pub mod Reading
 pub mod Scenes
