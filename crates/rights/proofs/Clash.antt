@@ -1,7 +1,7 @@
 -- The laws of clash: it is the first and the second rule applying together where minuses stand on base tables only,
 -- it grows with the pairs, the tables and the entries, and a test decides it.
-use mathlib.Core.Path.{_≡_, refl, sym, ap, subst, _∙_}
-use mathlib.Core.Bool.{Bool, true, false, true≢false, _&&_, _||_}
+use mathlib.Core.Path.{_≡_, refl, sym, ap, subst}
+use mathlib.Core.Bool.{Bool, _&&_, _||_}
 use mathlib.Core.Logic.{_⊎_, inl, inr, ⊎-elim}
 use mathlib.Core.List.{List, [], _∷_, _++_, map}
 use Prim.Native.Nat.{ℕ}
@@ -16,10 +16,10 @@ use Rattle.rights.specs.declared.vocabulary.Sign.{Sign}
 use Rattle.rights.specs.declared.vocabulary.Strength.{Strength}
 use Rattle.rights.specs.Access.{Denied}
 use Rattle.rights.specs.Clash.{Clash, Clashing}
-use Rattle.rights.specs.Holding.{Gives, Holds, StrongPlus, StrongMinus, MinusOnBases}
+use Rattle.rights.specs.Holding.{Holds, StrongPlus, StrongMinus, MinusOnBases}
 use Rattle.rights.specs.Lists.{In}
 use Rattle.rights.specs.Pairs.{pair}
-use Rattle.rights.specs.Tables.{Tables, IsBase, Beneath, AtOrBeneath, Levelled, Extends}
+use Rattle.rights.specs.Tables.{Tables, IsBase, AtOrBeneath, Levelled, Extends}
 use Rattle.rights.specs.Within.{Within, Below}
 use Rattle.rights.proofs.Deciding.{Among, Some-in, some-test, decides-some, either-way}
 use Rattle.rights.proofs.Holding.{same-right, decides-same-right, within-test, decides-within, strong-plus-test, decides-strong-plus, strong-plus-grows, strong-minus-grows}

@@ -1,18 +1,15 @@
 -- What stays as a register grows: strong answers, and every answer about a table that was there before.
-use mathlib.Core.Path.{_≡_, refl, sym, ap, subst, _∙_}
-use mathlib.Core.Bool.{Bool, true, false, cond}
-use mathlib.Core.Logic.{_⊎_, inl, inr, ⊎-elim, _↔_}
+use mathlib.Core.Path.{_≡_, sym, ap, _∙_}
+use mathlib.Core.Bool.{cond}
+use mathlib.Core.Logic.{inl, inr}
 use mathlib.Core.List.{List}
 use Prim.Native.Nat.{ℕ}
-use lib.Dec.{eqb}
 use Rattle.std.specs.declared.option.Option.the-variants.{Some, None}
-use Rattle.std.proofs.shelf.Tests.{eqb-true, ne-eqb}
+use Rattle.std.proofs.shelf.Tests.{ne-eqb}
 use Rattle.rights.specs.declared.commands.Answer.{Answer}
 use Rattle.rights.specs.declared.commands.Ground.{Ground}
 use Rattle.rights.specs.declared.entries.Entry.{Entry}
-use Rattle.rights.specs.declared.entries.Pair.{Pair}
-use Rattle.rights.specs.declared.vocabulary.Privilege.{Privilege}
-use Rattle.rights.specs.Laws.{SameBelow, MoreOf, Strong-stays, Made-apart}
+use Rattle.rights.specs.Laws.{SameBelow, Strong-stays, Made-apart}
 use Rattle.rights.specs.Tables.{Table, Tables, made, Beneath, AtOrBeneath, Stands, Level, level, Levelled}
 use Rattle.rights.proofs.Clash.{denied-grows, denied-clash}
 use Rattle.rights.proofs.Grounds.{answers-says, says-answers}

@@ -1,6 +1,6 @@
 -- What an answer reads: two states with the same tables and entries at a table and beneath it give it the same answers.
-use mathlib.Core.Path.{_≡_, refl, sym, ap, subst, _∙_}
-use mathlib.Core.Logic.{_⊎_, inl, inr, ⊎-elim, _↔_}
+use mathlib.Core.Path.{_≡_, refl, sym, subst, _∙_}
+use mathlib.Core.Logic.{inl, inr}
 use mathlib.Core.List.{List, [], _∷_}
 use Prim.Native.Nat.{ℕ}
 use Rattle.std.specs.declared.option.Option.the-variants.{Some}
@@ -11,7 +11,7 @@ use Rattle.rights.specs.declared.vocabulary.Privilege.{Privilege}
 use Rattle.rights.specs.declared.vocabulary.Sign.{Sign}
 use Rattle.rights.specs.declared.vocabulary.Strength.{Strength}
 use Rattle.rights.specs.Access.{ButLast, other, WeakAt, Applies, Denied, Weakly, Granted, strongly, weakly, by-names, ByNames, rules, Answers}
-use Rattle.rights.specs.Holding.{Gives, Holds, StrongPlus, StrongMinus}
+use Rattle.rights.specs.Holding.{Holds, StrongPlus, StrongMinus}
 use Rattle.rights.specs.Laws.{SameBelow, Reads-below}
 use Rattle.rights.specs.Lists.{In}
 use Rattle.rights.specs.Tables.{Table, Tables, IsBase, IsView, Owns, Names, Beneath, named, deeper, AtOrBeneath}

@@ -1,7 +1,7 @@
 -- The laws of tables: beneath is transitive, a level is unique and falls from a view to what it names,
 -- and tests that decide what stands, what a table names and what is beneath it.
 use mathlib.Core.Path.{_≡_, refl, sym, ap, ap₂, subst, _∙_}
-use mathlib.Core.Bool.{Bool, true, false, true≢false, not, cond, _&&_, _||_}
+use mathlib.Core.Bool.{Bool, true, false, true≢false, not, cond, _||_}
 use mathlib.Core.Logic.{_⊎_, inl, inr, ⊎-elim}
 use mathlib.Core.List.{List, [], _∷_}
 use Prim.Native.Nat.{ℕ, zero, suc, _+_, _≤_, _<_, max}
@@ -10,7 +10,7 @@ use lib.Dec.{eqb}
 use Rattle.std.specs.Orderings.{Decides}
 use Rattle.std.specs.declared.option.Option.{Option}
 use Rattle.std.specs.declared.option.Option.the-variants.{Some, None}
-use Rattle.std.proofs.shelf.Tests.{eqb-true, eqb-false, eq-eqb, cond-true, cond-false}
+use Rattle.std.proofs.shelf.Tests.{eqb-true}
 use Rattle.std.proofs.shelf.Ways.{decides-eqb, decides-or, decides-not, decides-like}
 use Rattle.rights.specs.Lists.{In}
 use Rattle.rights.specs.Tables.{Table, Tables, no-tables, made, Stands, IsBase, IsView, Owns, Names, Beneath, named, deeper, Level, level, LevelOver, over-none, over-more, Levelled, Extends}
