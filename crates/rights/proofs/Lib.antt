@@ -1,3 +1,4 @@
 pub mod Bits
 pub mod Order
+pub mod Parts
 pub mod Within

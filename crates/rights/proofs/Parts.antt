@@ -1,0 +1,146 @@
+-- Laws of lists: membership and its tests, a list with one element more (Placed), a list parted in two (Parted).
+use mathlib.Core.Path.{_≡_, refl, sym, ap, subst, _∙_}
+use mathlib.Core.Bool.{Bool, true, false, not, _&&_, _||_}
+use mathlib.Core.Logic.{_⊎_, inl, inr, ⊎-elim}
+use mathlib.Core.List.{List, [], _∷_, _++_}
+use Prim.Native.Nat.{ℕ, _≤_}
+use lib.Dec.{leb}
+use Rattle.std.specs.Orderings.{Decides}
+use Rattle.std.specs.shelf.Lists.{All}
+use Rattle.std.proofs.shelf.Tests.{both-ways, cases-bool, false≢true, leb-true, le-leb}
+use Rattle.std.proofs.shelf.Ways.{decides-or, decides-and, decides-like, not-from-decides}
+use Rattle.rights.specs.Lists.{In, Rising, Placed, Parted, none, keep, leave}
+use Rattle.rights.proofs.Within.{Or-not}
+
+-- every element of xs is one of ys
+abbrev pub Among : {X : Type 0} → List X → List X → Type 0
+Among {X} xs ys = (x : X) → In x xs → In x ys
+
+pub decides-leb : (a b : ℕ) → Decides (leb a b) (a ≤ b)
+decides-leb a b = (leb-true a b, le-leb a b)
+
+pub decided : {P : Type 0} (b : Bool) → Decides b P → Or-not P
+decided true d = inl (d .0 refl)
+decided false d = inr (λ p. false≢true (d .1 p))
+
+-- some element passes the test
+abbrev pub any : {X : Type 0} → (X → Bool) → List X → Bool
+any f [] = false
+any f (x ∷ xs) = f x || any f xs
+
+-- each element passes it
+abbrev pub each : {X : Type 0} → (X → Bool) → List X → Bool
+each f [] = true
+each f (x ∷ xs) = f x && each f xs
+
+module _ {X : Type 0} where
+  pub in-left : (x : X) (xs ys : List X) → In x xs → In x (xs ++ ys)
+  in-left x [] ys i = absurd i
+  in-left x (y ∷ xs) ys (inl e) = inl e
+  in-left x (y ∷ xs) ys (inr i) = inr (in-left x xs ys i)
+
+  pub in-right : (x : X) (xs ys : List X) → In x ys → In x (xs ++ ys)
+  in-right x [] ys i = i
+  in-right x (y ∷ xs) ys i = inr (in-right x xs ys i)
+
+  pub in-middle : (x : X) (xs ys : List X) → In x (xs ++ (x ∷ ys))
+  in-middle x xs ys = in-right x xs (x ∷ ys) (inl refl)
+
+  pub all-in : (P : X → Type 0) (xs : List X) → All P xs → (x : X) → In x xs → P x
+  all-in P [] a x i = absurd i
+  all-in P (y ∷ ys) a x (inl e) = subst P (sym e) (a .0)
+  all-in P (y ∷ ys) a x (inr i) = all-in P ys (a .1) x i
+
+  pub in-all : (P : X → Type 0) (xs : List X) → ((x : X) → In x xs → P x) → All P xs
+  in-all P [] f = tt
+  in-all P (y ∷ ys) f = (f y (inl refl), in-all P ys (λ x i. f x (inr i)))
+
+  pub decides-any : (f : X → Bool) (P : X → Type 0) → ((x : X) → Decides (f x) (P x)) → (xs : List X) → Decides (any f xs) ((x : X) × In x xs × P x)
+  decides-any f P d [] = ((λ e. absurd (false≢true e)), λ h. absurd (h .1))
+  decides-any f P d (x ∷ xs) = decides-like _ out back (decides-or (f x) (any f xs) (d x) (decides-any f P d xs))
+    where
+      out : P x ⊎ ((y : X) × In y xs × P y) → (y : X) × In y (x ∷ xs) × P y
+      out (inl p) = (x, inl refl, p)
+      out (inr h) = (h .0, inr (h .1), h .2)
+
+      split : (y : X) → In y (x ∷ xs) → P y → P x ⊎ ((y : X) × In y xs × P y)
+      split y (inl e) p = inl (subst P e p)
+      split y (inr i) p = inr (y, i, p)
+
+      back : (y : X) × In y (x ∷ xs) × P y → P x ⊎ ((y : X) × In y xs × P y)
+      back h = split (h .0) (h .1) (h .2)
+
+  pub decides-each : (f : X → Bool) (P : X → Type 0) (xs : List X) → ((x : X) → In x xs → Decides (f x) (P x)) → Decides (each f xs) ((x : X) → In x xs → P x)
+  decides-each f P [] d = ((λ e x i. absurd i), λ h. refl)
+  decides-each f P (y ∷ ys) d =
+    decides-like _ (λ h. all-in P (y ∷ ys) (h .0, in-all P ys (h .1))) (λ h. (h y (inl refl), λ x i. h x (inr i)))
+    (decides-and (f y) (each f ys) (d y (inl refl)) (decides-each f P ys (λ x i. d x (inr i))))
+
+-- what a list with one element more is, and what it was before, is settled by the element and the other list
+module _ {X : Type 0} (Before : X → X → Type 0) (one-way : (x y : X) → Before x y → Before y x → ⊥) (x : X) where
+  same-more : (f b f′ b′ : List X) → f ++ b ≡ f′ ++ b′ → Rising Before (f ++ (x ∷ b)) → Rising Before (f′ ++ (x ∷ b′)) → f ++ (x ∷ b) ≡ f′ ++ (x ∷ b′)
+  same-more [] b [] b′ e r r′ = ap (λ l. x ∷ l) e
+  same-more [] b (y ∷ f′) b′ e r r′ = absurd (one-way x y (subst (All (Before x)) e (r .0) .0) (all-in (Before y) (f′ ++ (x ∷ b′)) (r′ .0) x (in-middle x f′ b′)))
+  same-more (y ∷ f) b [] b′ e r r′ = absurd (one-way x y (subst (All (Before x)) (sym e) (r′ .0) .0) (all-in (Before y) (f ++ (x ∷ b)) (r .0) x (in-middle x f b)))
+  same-more (y ∷ f) b (z ∷ f′) b′ e r r′ =
+    let h : y ≡ z = cc in
+    let t : f ++ b ≡ f′ ++ b′ = cc in
+    let s = same-more f b f′ b′ t (r .1) (r′ .1) in
+    cc
+
+  same-less : (f b f′ b′ : List X) → f ++ (x ∷ b) ≡ f′ ++ (x ∷ b′) → Rising Before (f ++ (x ∷ b)) → Rising Before (f′ ++ (x ∷ b′)) → f ++ b ≡ f′ ++ b′
+  same-less [] b [] b′ e r r′ = cc
+  same-less [] b (y ∷ f′) b′ e r r′ =
+    let h : y ≡ x = cc in
+    let k : Before y x = all-in (Before y) (f′ ++ (x ∷ b′)) (r′ .0) x (in-middle x f′ b′) in
+    absurd (one-way y x k (subst (λ z. Before z y) h (subst (λ z. Before y z) (sym h) k)))
+  same-less (y ∷ f) b [] b′ e r r′ =
+    let h : y ≡ x = cc in
+    let k : Before y x = all-in (Before y) (f ++ (x ∷ b)) (r .0) x (in-middle x f b) in
+    absurd (one-way y x k (subst (λ z. Before z y) h (subst (λ z. Before y z) (sym h) k)))
+  same-less (y ∷ f) b (z ∷ f′) b′ e r r′ =
+    let h : y ≡ z = cc in
+    let t : f ++ (x ∷ b) ≡ f′ ++ (x ∷ b′) = cc in
+    let s = same-less f b f′ b′ t (r .1) (r′ .1) in
+    cc
+
+  pub placed-same : (xs ys zs : List X) → Placed Before x xs ys → Placed Before x xs zs → ys ≡ zs
+  unfolding Placed
+  placed-same xs ys zs p q =
+    p .3 ∙ same-more (p .0) (p .1) (q .0) (q .1) (sym (p .2) ∙ q .2) (subst (Rising Before) (p .3) (p .4)) (subst (Rising Before) (q .3) (q .4)) ∙ sym (q .3)
+
+  pub unplaced-same : (xs ys zs : List X) → Placed Before x xs zs → Placed Before x ys zs → xs ≡ ys
+  unfolding Placed
+  unplaced-same xs ys zs p q =
+    p .2 ∙ same-less (p .0) (p .1) (q .0) (q .1) (sym (p .3) ∙ q .3) (subst (Rising Before) (p .3) (p .4)) (subst (Rising Before) (q .3) (q .4)) ∙ sym (q .2)
+
+-- a list is parted by a property in one way
+module _ {X : Type 0} (Keeps : X → Type 0) where
+  pub parted-same : {xs k o k′ o′ : List X} → Parted Keeps xs k o → Parted Keeps xs k′ o′ → (k ≡ k′) × (o ≡ o′)
+  parted-same none none = (refl, refl)
+  parted-same (keep {x = x} h p) (keep i q) = let s = parted-same p q in (ap (λ l. x ∷ l) (s .0), s .1)
+  parted-same (keep h p) (leave i q) = absurd (i h)
+  parted-same (leave h p) (keep i q) = absurd (h i)
+  parted-same (leave {x = x} h p) (leave i q) = let s = parted-same p q in (s .0, ap (λ l. x ∷ l) (s .1))
+
+  -- and is parted, where the property is decided of each element
+  pub parted-total : (xs : List X) → ((x : X) → In x xs → Or-not (Keeps x)) → (kept : List X) × (out : List X) × Parted Keeps xs kept out
+  parted-total [] d = ([], [], none)
+  parted-total (x ∷ xs) d = by (d x (inl refl)) (parted-total xs (λ y i. d y (inr i)))
+    where
+      by : Or-not (Keeps x) → (kept : List X) × (out : List X) × Parted Keeps xs kept out → (kept : List X) × (out : List X) × Parted Keeps (x ∷ xs) kept out
+      by (inl k) r = (x ∷ r .0, r .1, keep k (r .2))
+      by (inr n) r = (r .0, x ∷ r .1, leave n (r .2))
+
+  pub parted-kept : {xs kept out : List X} → Parted Keeps xs kept out → (x : X) → In x xs → Keeps x → In x kept
+  parted-kept none x i k = absurd i
+  parted-kept (keep h p) x (inl e) k = inl e
+  parted-kept (keep h p) x (inr i) k = inr (parted-kept p x i k)
+  parted-kept (leave h p) x (inl e) k = absurd (h (subst Keeps e k))
+  parted-kept (leave h p) x (inr i) k = parted-kept p x i k
+
+  pub kept-parted : {xs kept out : List X} → Parted Keeps xs kept out → (x : X) → In x kept → In x xs × Keeps x
+  kept-parted none x i = absurd i
+  kept-parted (keep h p) x (inl e) = (inl e, subst Keeps (sym e) h)
+  kept-parted (keep h p) x (inr i) = let r = kept-parted p x i in (inr (r .0), r .1)
+  kept-parted (leave h p) x i = let r = kept-parted p x i in (inr (r .0), r .1)
