@@ -1,4 +1,5 @@
 pub mod Bits
+pub mod Cover
 pub mod Order
 pub mod Parts
 pub mod Within
