@@ -1,4 +1,5 @@
 pub mod Bits
+pub mod Chain
 pub mod Cover
 pub mod Order
 pub mod Parts
