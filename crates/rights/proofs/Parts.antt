@@ -1,10 +1,13 @@
 -- Laws of lists: membership and its tests, a list with one element more (Placed), a list parted in two (Parted).
 use mathlib.Core.Path.{_≡_, refl, sym, ap, subst, _∙_}
-use mathlib.Core.Bool.{Bool, true, false, not, _&&_, _||_}
+use mathlib.Core.Bool.{Bool, true, false, cond, _&&_, _||_}
 use mathlib.Core.Logic.{_⊎_, inl, inr, ⊎-elim}
 use mathlib.Core.List.{List, [], _∷_, _++_}
-use Prim.Native.Nat.{ℕ, _≤_}
+use Prim.Native.Nat.{ℕ, suc, _≤_}
 use lib.Dec.{leb}
+use lib.ListN.{length}
+use Rattle.std.specs.declared.option.Option.{Option}
+use Rattle.std.specs.declared.option.Option.the-variants.{Some, None}
 use Rattle.std.specs.Orderings.{Decides}
 use Rattle.std.specs.shelf.Lists.{All}
 use Rattle.std.proofs.shelf.Tests.{both-ways, cases-bool, false≢true, leb-true, le-leb}
@@ -32,6 +35,24 @@ any f (x ∷ xs) = f x || any f xs
 abbrev pub each : {X : Type 0} → (X → Bool) → List X → Bool
 each f [] = true
 each f (x ∷ xs) = f x && each f xs
+
+-- the elements that pass the test, and those that do not
+abbrev pub passing : {X : Type 0} → (X → Bool) → List X → List X
+passing f [] = []
+passing f (x ∷ xs) = cond (f x) (x ∷ passing f xs) (passing f xs)
+
+abbrev pub failing : {X : Type 0} → (X → Bool) → List X → List X
+failing f [] = []
+failing f (x ∷ xs) = cond (f x) (failing f xs) (x ∷ failing f xs)
+
+-- the first element that passes, with the others in their order
+abbrev pub onto : {X : Type 0} → X → Option (X × List X) → Option (X × List X)
+onto x None = None
+onto x (Some r) = Some (r .0, x ∷ r .1)
+
+abbrev pub find : {X : Type 0} → (X → Bool) → List X → Option (X × List X)
+find f [] = None
+find f (x ∷ xs) = cond (f x) (Some (x, xs)) (onto x (find f xs))
 
 module _ {X : Type 0} where
   pub in-left : (x : X) (xs ys : List X) → In x xs → In x (xs ++ ys)
@@ -144,3 +165,60 @@ module _ {X : Type 0} (Keeps : X → Type 0) where
   kept-parted (keep h p) x (inl e) = (inl e, subst Keeps (sym e) h)
   kept-parted (keep h p) x (inr i) = let r = kept-parted p x i in (inr (r .0), r .1)
   kept-parted (leave h p) x i = let r = kept-parted p x i in (inr (r .0), r .1)
+
+  -- by the test of the property
+  pub parted-by : (f : X → Bool) (xs : List X) → ((x : X) → Decides (f x) (Keeps x)) → Parted Keeps xs (passing f xs) (failing f xs)
+  parted-by f [] d = none
+  parted-by f (x ∷ xs) d = by (f x) (d x) (parted-by f xs d)
+    where
+      by : (b : Bool) → Decides b (Keeps x) → Parted Keeps xs (passing f xs) (failing f xs) → Parted Keeps (x ∷ xs) (cond b (x ∷ passing f xs) (passing f xs)) (cond b (failing f xs) (x ∷ failing f xs))
+      by true h p = keep (h .0 refl) p
+      by false h p = leave (λ k. false≢true (h .1 k)) p
+
+module _ {X : Type 0} (f : X → Bool) where
+  pub failing-in : (xs : List X) (x : X) → In x (failing f xs) → In x xs × (f x ≡ false)
+  failing-in [] x i = absurd i
+  failing-in (y ∷ ys) x i = by (λ j. failing-in ys x j) (f y) refl i
+    where
+      by : (In x (failing f ys) → In x ys × (f x ≡ false)) → (b : Bool) → f y ≡ b → In x (cond b (failing f ys) (y ∷ failing f ys)) → In x (y ∷ ys) × (f x ≡ false)
+      by rest true e j = let r = rest j in (inr (r .0), r .1)
+      by rest false e (inl q) = (inl q, ap f q ∙ e)
+      by rest false e (inr j) = let r = rest j in (inr (r .0), r .1)
+
+  pub in-failing : (xs : List X) (x : X) → In x xs → f x ≡ false → In x (failing f xs)
+  in-failing [] x i n = absurd i
+  in-failing (y ∷ ys) x i n = by (λ j. in-failing ys x j n) (f y) refl i
+    where
+      by : (In x ys → In x (failing f ys)) → (b : Bool) → f y ≡ b → In x (y ∷ ys) → In x (cond b (failing f ys) (y ∷ failing f ys))
+      by rest true e (inl q) = absurd (both-ways (f x) n (ap f q ∙ e))
+      by rest true e (inr j) = rest j
+      by rest false e (inl q) = inl q
+      by rest false e (inr j) = inr (rest j)
+
+  -- x passes, and the list is x with the others of m
+  pub record Found (xs : List X) (x : X) (m : List X) : Type 0 where
+    pub passes : f x ≡ true
+    pub fewer : length xs ≡ suc (length m)
+    pub stood : In x xs
+    pub others : Among m xs
+    pub or-else : (y : X) → In y xs → (y ≡ x) ⊎ In y m
+
+  abbrev pub Sought : List X → Option (X × List X) → Type 0
+  Sought xs None = (x : X) → In x xs → f x ≡ false
+  Sought xs (Some r) = Found xs (r .0) (r .1)
+
+  pub find-sought : (xs : List X) → Sought xs (find f xs)
+  find-sought [] = λ x i. absurd i
+  find-sought (y ∷ ys) = by (f y) refl (find f ys) (find-sought ys)
+    where
+      by : (b : Bool) → f y ≡ b → (o : Option (X × List X)) → Sought ys o → Sought (y ∷ ys) (cond b (Some (y, ys)) (onto y o))
+      by true e o s = record { passes = e; fewer = refl; stood = inl refl; others = λ x i. inr i; or-else = λ x i. i }
+      by false e None s = λ x i. ⊎-elim (λ q. ap f q ∙ e) (s x) i
+      by false e (Some r) s =
+        record
+          { passes = s .passes
+          ; fewer = ap suc (s .fewer)
+          ; stood = inr (s .stood)
+          ; others = λ x i. ⊎-elim inl (λ j. inr (s .others x j)) i
+          ; or-else = λ x i. ⊎-elim (λ q. inr (inl q)) (λ j. ⊎-elim inl (λ k. inr (inr k)) (s .or-else x j)) i
+          }
