@@ -3,4 +3,5 @@ pub mod Chain
 pub mod Cover
 pub mod Order
 pub mod Parts
+pub mod Runs
 pub mod Within
