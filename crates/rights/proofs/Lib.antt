@@ -1,7 +1,13 @@
+pub mod Access
 pub mod Bits
 pub mod Chain
+pub mod Checks
+pub mod Clash
 pub mod Cover
+pub mod Deciding
+pub mod Holding
 pub mod Order
 pub mod Parts
 pub mod Runs
+pub mod Tables
 pub mod Within

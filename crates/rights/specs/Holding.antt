@@ -29,3 +29,7 @@ StrongPlus pairs tables entries s p t = Holds pairs entries s p Sign.Plus t Stre
 
 unfoldable pub StrongMinus : List Pair → List Entry → ℕ → Privilege → ℕ → Type 0
 StrongMinus pairs entries s p t = Holds pairs entries s p Sign.Minus t Strength.Strong
+
+-- a minus stands on base tables only
+abbrev pub MinusOnBases : Tables → List Entry → Type 0
+MinusOnBases tables entries = (e : Entry) → In e entries → (p : Privilege) (r : Strength) → e .right ≡ Right.Access p Sign.Minus r → IsBase tables (e .table)

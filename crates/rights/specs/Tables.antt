@@ -1,6 +1,7 @@
 -- The tables of a register: what stands under each number, what a view names, levels, and what is beneath.
 use mathlib.Core.Path.{_≡_}
 use mathlib.Core.Bool.{cond}
+use mathlib.Core.Logic.{_⊎_}
 use mathlib.Core.List.{List, [], _∷_}
 use Prim.Native.Nat.{ℕ, _+_, max}
 use lib.Dec.{eqb}
@@ -48,6 +49,10 @@ pub data Beneath (tables : Tables) : ℕ → ℕ → Type 0 where
   named : {t v : ℕ} → Names tables v t → Beneath tables t v
   deeper : {t w v : ℕ} → Names tables v w → Beneath tables t w → Beneath tables t v
 
+-- the table itself, or one beneath it
+abbrev pub AtOrBeneath : Tables → ℕ → ℕ → Type 0
+AtOrBeneath tables b t = (b ≡ t) ⊎ Beneath tables b t
+
 -- a base table has level 0, a view one more than the highest level among the tables it names
 mutual
   pub data Level (tables : Tables) : ℕ → ℕ → Type 0 where
@@ -57,3 +62,7 @@ mutual
   pub data LevelOver (tables : Tables) : List ℕ → ℕ → Type 0 where
     over-none : LevelOver tables [] 0
     over-more : {d k n : ℕ} {ds : List ℕ} → Level tables d k → LevelOver tables ds n → LevelOver tables (d ∷ ds) (max (k + 1) n)
+
+-- every table that stands has a level, so no view is beneath itself and whatever is named stands
+abbrev pub Levelled : Tables → Type 0
+Levelled tables = (t : ℕ) → Stands tables t → (n : ℕ) × Level tables t n
