@@ -10,17 +10,18 @@ use lib.ListN.{length}
 use Rattle.std.specs.declared.option.Option.{Option}
 use Rattle.std.specs.declared.option.Option.the-variants.{Some, None}
 use Rattle.std.specs.Orderings.{Decides}
-use Rattle.std.proofs.shelf.Tests.{cases-bool, false≢true}
+use Rattle.std.proofs.shelf.Tests.{cases-bool}
 use Rattle.std.proofs.shelf.Ways.{not-from-decides, decides-like}
 use Rattle.rights.specs.declared.entries.Entry.{Entry}
 use Rattle.rights.specs.Chain.{Chain, HasChain, Others, Revoked}
 use Rattle.rights.specs.Cover.{Supported}
 use Rattle.rights.specs.Entries.{same-entry}
 use Rattle.rights.specs.Lists.{In, Parted}
-use Rattle.rights.specs.Tables.{Tables}
-use Rattle.rights.proofs.Cover.{Levelled, supported-grows, supported-or-not}
+use Rattle.rights.specs.Tables.{Tables, Levelled}
+use Rattle.rights.proofs.Cover.{supported-grows, supported-or-not}
+use Rattle.rights.proofs.Deciding.{Among, some-test, passing, decides-in, decides-from-cases, either-way}
 use Rattle.rights.proofs.Order.{decides-same}
-use Rattle.rights.proofs.Parts.{Among, any, passing, failing, find, Sought, Found, in-left, in-right, decided, decides-any, find-sought, failing-in, in-failing, parted-same, parted-by, kept-parted}
+use Rattle.rights.proofs.Parts.{failing, find, Sought, in-left, in-right, find-sought, failing-in, in-failing, parted-same, parted-by, kept-parted}
 use Rattle.rights.proofs.Within.{Or-not}
 
 -- marking by a test of support: one entry of the rest after the other, while some is supported by the marked
@@ -34,7 +35,7 @@ marks test (suc n) marked rest = onward (λ m l. marks test n m l) marked (find 
 
 -- whether e is one of those marked
 abbrev pub among : List Entry → Entry → Bool
-among l e = any (λ f. same-entry e f) l
+among l e = some-test (λ f. same-entry e f) l
 
 -- whether e has a chain among the entries of a list, and among those other than the named one, by a test of support
 abbrev pub chain-test : (List Entry → Entry → Bool) → List Entry → Entry → Bool
@@ -145,10 +146,7 @@ module _ (tables : Tables) where
         by (Some (x, l)) s next = next (x ∷ marked) l (omega (arith, s .fewer)) (marking-more Standing marked rest x l m (judges marked x .0 (s .passes)) (s .stood) (s .others) (s .or-else))
 
   marked-decides : (Standing : Entry → Type 0) (l : List Entry) → Marked Standing l → (e : Entry) → Decides (among l e) (HasChain tables Standing e)
-  marked-decides Standing l m e = decides-like _ (λ h. m .sound e (there l (h .0) (h .1) (h .2))) (λ c. (e, m .complete e c, refl)) (decides-any (λ f. same-entry e f) (λ f. e ≡ f) (decides-same e) l)
-    where
-      there : (l : List Entry) (f : Entry) → In f l → e ≡ f → In e l
-      there l f i q = subst (λ x. In x l) (sym q) i
+  marked-decides Standing l m e = decides-like _ (m .sound e) (m .complete e) (decides-in same-entry decides-same e l)
 
   module _ (test : List Entry → Entry → Bool) (judges : (m : List Entry) (e : Entry) → Decides (test m e) (Supported tables m e)) where
     pub decides-chain : (entries : List Entry) (e : Entry) → Decides (chain-test test entries e) (HasChain tables (λ f. In f entries) e)
@@ -188,25 +186,16 @@ module _ (tables : Tables) where
   revoked-named named entries kept struck p i = has-chain-stands (Others entries named) named (kept-parted (HasChain tables (Others entries named)) p named i .1) .1 refl
 
 -- where every table that stands has a level, chains are decidable, and a revocation has an outcome
-told : {P : Type 0} → Or-not P → Bool
-told (inl p) = true
-told (inr n) = false
-
-told-decides : {P : Type 0} (d : Or-not P) → Decides (told d) P
-unfolding told
-told-decides (inl p) = ((λ e. p), λ q. refl)
-told-decides (inr n) = ((λ e. absurd (false≢true e)), λ p. absurd (n p))
-
 module _ (tables : Tables) (levels : Levelled tables) where
   support-test : List Entry → Entry → Bool
-  support-test m e = told (supported-or-not tables levels m e)
+  support-test m e = decides-from-cases (supported-or-not tables levels m e) .0
 
   support-judges : (m : List Entry) (e : Entry) → Decides (support-test m e) (Supported tables m e)
   unfolding support-test
-  support-judges m e = told-decides (supported-or-not tables levels m e)
+  support-judges m e = decides-from-cases (supported-or-not tables levels m e) .1
 
   pub chain-or-not : (entries : List Entry) (e : Entry) → Or-not (HasChain tables (λ f. In f entries) e)
-  chain-or-not entries e = decided _ (decides-chain tables support-test support-judges entries e)
+  chain-or-not entries e = either-way _ (decides-chain tables support-test support-judges entries e)
 
   pub revoked-total : (named : Entry) (entries : List Entry) → (kept : List Entry) × (struck : List Entry) × Revoked tables named entries kept struck
   revoked-total named entries = (_, _, revoked-by tables support-test support-judges named entries)

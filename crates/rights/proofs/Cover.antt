@@ -3,7 +3,7 @@ use mathlib.Core.Path.{_≡_, refl, sym, ap, subst, _∙_}
 use mathlib.Core.Bool.{Bool, true, false, _&&_, _||_}
 use mathlib.Core.Logic.{_⊎_, inl, inr, ⊎-elim}
 use mathlib.Core.List.{List, [], _∷_}
-use Prim.Native.Nat.{ℕ, zero, suc, _+_, max, _≤_, _<_}
+use Prim.Native.Nat.{ℕ, zero, suc, _≤_}
 use native.Mathlib.Omega.{arith}
 use lib.Dec.{eqb, leb}
 use Rattle.std.specs.declared.option.Option.{Option}
@@ -19,8 +19,10 @@ use Rattle.rights.specs.declared.vocabulary.Right.{Right}
 use Rattle.rights.specs.Cover.{Lends, Covers, by-owning, by-entry, by-names, privilege-in, kind-needed, rank-needed, Supported}
 use Rattle.rights.specs.Lists.{In}
 use Rattle.rights.specs.Numbers.{kind-number, rank-number, privilege-number}
-use Rattle.rights.specs.Tables.{Table, Tables, Stands, IsBase, IsView, Owns, Names, Level, LevelOver, level, over-none, over-more}
-use Rattle.rights.proofs.Parts.{Among, any, each, decides-any, decides-each, decides-leb, decided}
+use Rattle.rights.specs.Tables.{Table, Tables, IsBase, IsView, Owns, Names, Levelled}
+use Rattle.rights.proofs.Deciding.{Among, some-test, each-test, decides-some, decides-each, either-way}
+use Rattle.rights.proofs.Parts.{decides-leb}
+use Rattle.rights.proofs.Tables.{Low, low-named, low-names-none, levels-of, some-same}
 use Rattle.rights.proofs.Within.{Or-not}
 
 pub privilege-injective : (p q : Privilege) → privilege-number p ≡ privilege-number q → p ≡ q
@@ -61,14 +63,6 @@ decides-right k r p (Right.Admin q k′ r′) =
       let er : b ≡ r′ = cc in
       (ap privilege-number ep, (subst (λ x. kind-number k ≤ kind-number x) ek m, subst (λ x. rank-number r ≤ rank-number x) er n))
 
--- every table that stands has a level
-abbrev pub Levelled : Tables → Type 0
-Levelled tables = (t : ℕ) → Stands tables t → (n : ℕ) × Level tables t n
-
--- every table that stands has a level below m
-abbrev pub LevelsBelow : Tables → ℕ → Type 0
-LevelsBelow tables m = (t : ℕ) → Stands tables t → (n : ℕ) × Level tables t n × (n < m)
-
 module _ (tables : Tables) where
   pub covers-grows : (es fs : List Entry) → Among es fs → {x : ℕ} {k : Kind} {r : Rank} {p : Privilege} {t : ℕ} → Covers tables es x k r p t → Covers tables fs x k r p t
   covers-grows es fs more (by-owning b o) = by-owning b o
@@ -78,17 +72,6 @@ module _ (tables : Tables) where
   pub supported-grows : (es fs : List Entry) → Among es fs → (e : Entry) → Supported tables es e → Supported tables fs e
   unfolding Supported
   supported-grows es fs more e s = covers-grows es fs more s
-
-  over-lower : {ds : List ℕ} {n : ℕ} → LevelOver tables ds n → (d : ℕ) → In d ds → (k : ℕ) × Level tables d k × (k < n)
-  over-lower over-none d i = absurd i
-  over-lower (over-more {d = c} {k = k} {n = n} l over) d (inl e) = (k, subst (λ x. Level tables x k) (sym e) l, omega arith)
-  over-lower (over-more {k = k} {n = n} l over) d (inr i) = let r = over-lower over d i in (r .0, r .1, omega (arith, r .2))
-
-  -- a table that is named stands one level lower at least
-  pub level-lower : {t n : ℕ} → Level tables t n → (d : ℕ) → Names tables t d → (k : ℕ) × Level tables d k × (k < n)
-  level-lower (level {t = t} {n = n} {r = r} e over) d (r′, e′, i) =
-    let s : r′ ≡ r = cc in
-    over-lower over d (subst (λ x. In d (x .names)) s i)
 
   module _ (entries : List Entry) (x : ℕ) (k : Kind) (r : Rank) (p : Privilege) where
     -- x owns the table, and covers every table that it names
@@ -125,12 +108,12 @@ module _ (tables : Tables) where
     -- what owning a table gives, by a test for the tables that it names
     abbrev pub owned-test : (ℕ → Bool) → Option Table → Bool
     owned-test f None = false
-    owned-test f (Some w) = eqb (w .owner) x && each f (w .names)
+    owned-test f (Some w) = eqb (w .owner) x && each-test f (w .names)
 
-    -- the test of cover on a table of level below n
-    abbrev pub covers-below : ℕ → ℕ → Bool
-    covers-below zero t = any (lends-test t) entries
-    covers-below (suc n) t = any (lends-test t) entries || owned-test (λ d. covers-below n d) (tables t)
+    -- the test of cover on a table of level at most n
+    abbrev pub covers-test : ℕ → ℕ → Bool
+    covers-test zero t = let owned = owned-test (λ d. false) (tables t) in some-test (lends-test t) entries || owned
+    covers-test (suc n) t = let owned = owned-test (λ d. covers-test n d) (tables t) in some-test (lends-test t) entries || owned
 
     decides-owned : (f : ℕ → Bool) (o : Option Table) → ((w : Table) → o ≡ Some w → (d : ℕ) → In d (w .names) → Decides (f d) (Covers tables entries x k r p d)) → Decides (owned-test f o) ((w : Table) × (o ≡ Some w) × Owned w)
     decides-owned f None d = ((λ e. absurd (false≢true e)), λ h. absurd (apart (h .0) (h .1)))
@@ -139,48 +122,32 @@ module _ (tables : Tables) where
         apart w e = let z : _≡_ {A = ℕ} 0 1 = cc in omega arith
     decides-owned f (Some w) d =
       decides-like _ (λ h. (w, refl, (h .0, h .1))) (λ h. back (h .0) (h .1) (h .2))
-      (decides-and _ _ (decides-eqb _ _) (decides-each f (λ c. Covers tables entries x k r p c) (w .names) (d w refl)))
+      (decides-and _ _ (decides-eqb _ _) (decides-each (λ c. Covers tables entries x k r p c) f (w .names) (d w refl)))
       where
         back : (v : Table) → Some w ≡ Some v → Owned v → Owned w
         back v e h = let s : v ≡ w = cc in subst Owned s h
 
-    -- cover on a table of level below m is decided
-    pub decides-covers : (m : ℕ) {t n : ℕ} → Level tables t n → n < m → Decides (covers-below m t) (Covers tables entries x k r p t)
-    decides-covers zero l h = absurd (omega arith)
-    decides-covers (suc m) {t} l h =
+    decides-sources : (f : ℕ → Bool) (t : ℕ) → ((d : ℕ) → Names tables t d → Decides (f d) (Covers tables entries x k r p d)) → Decides (some-test (lends-test t) entries || owned-test f (tables t)) (Covers tables entries x k r p t)
+    decides-sources f t d =
       decides-like _ (sources-covers t) covers-sources
-      (decides-or _ _ (decides-any (lends-test t) (λ e. Lends e x k r p t) (decides-lends t) entries)
-      (decides-owned (λ d. covers-below m d) (tables t) (λ w e d i. let v = level-lower l d (w, e, i) in decides-covers m (v .1) (omega (arith, v .2)))))
+      (decides-or _ _ (decides-some (λ e. Lends e x k r p t) (lends-test t) entries (λ e _. decides-lends t e)) (decides-owned f (tables t) (λ w e c i. d c (w, e, i))))
 
-    -- on a table that does not stand it comes from an entry only
-    pub decides-covers-none : (m t : ℕ) → tables t ≡ None → Decides (covers-below (suc m) t) (Covers tables entries x k r p t)
-    decides-covers-none m t none =
-      decides-like _ (sources-covers t) covers-sources
-      (decides-or _ _ (decides-any (lends-test t) (λ e. Lends e x k r p t) (decides-lends t) entries)
-      (decides-owned (λ d. covers-below m d) (tables t) (λ w e. absurd (let z : _≡_ {A = ℕ} 0 1 = cc in omega arith))))
-
-    pub covers-decided : (m : ℕ) → LevelsBelow tables (suc m) → (t : ℕ) → Decides (covers-below (suc m) t) (Covers tables entries x k r p t)
-    covers-decided m low t = by (tables t) refl
-      where
-        by : (o : Option Table) → tables t ≡ o → Decides (covers-below (suc m) t) (Covers tables entries x k r p t)
-        by None e = decides-covers-none m t e
-        by (Some w) e = let l = low t (w, e) in decides-covers (suc m) (l .1) (l .2)
+    -- cover on a table of level at most n is decided
+    pub decides-covers : (n t : ℕ) → Low tables n t → Decides (covers-test n t) (Covers tables entries x k r p t)
+    decides-covers zero t low = decides-sources (λ d. false) t (λ d n. absurd (low-names-none tables t d low n))
+    decides-covers (suc n) t low = decides-sources (λ d. covers-test n d) t (λ d h. decides-covers n d (low-named tables n t d low h))
 
     -- cover is decidable where every table that stands has a level
     pub covers-or-not : Levelled tables → (t : ℕ) → Or-not (Covers tables entries x k r p t)
-    covers-or-not levels t = by (tables t) refl
-      where
-        by : (o : Option Table) → tables t ≡ o → Or-not (Covers tables entries x k r p t)
-        by None e = decided (covers-below 1 t) (decides-covers-none 0 t e)
-        by (Some w) e = let l = levels t (w, e) in decided (covers-below (suc (l .0)) t) (decides-covers (suc (l .0)) (l .1) (omega arith))
+    covers-or-not levels t = let l = levels-of tables levels t in either-way (covers-test (l .0) t) (decides-covers (l .0) t (l .1))
 
--- the test of whether e's grantor has the cover that e needs, where every table's level is below m
-abbrev pub supported-below : Tables → ℕ → List Entry → Entry → Bool
-supported-below tables m entries e = covers-below tables entries (e .grantor) (kind-needed (e .right)) (rank-needed (e .right)) (privilege-in (e .right)) m (e .table)
+-- the test of whether e's grantor has the cover that e needs, on a table of level at most n
+abbrev pub supported-test : Tables → ℕ → List Entry → Entry → Bool
+supported-test tables n entries e = covers-test tables entries (e .grantor) (kind-needed (e .right)) (rank-needed (e .right)) (privilege-in (e .right)) n (e .table)
 
-pub supported-decided : (tables : Tables) (m : ℕ) → LevelsBelow tables (suc m) → (entries : List Entry) (e : Entry) → Decides (supported-below tables (suc m) entries e) (Supported tables entries e)
+pub decides-supported : (tables : Tables) (n : ℕ) (entries : List Entry) (e : Entry) → Low tables n (e .table) → Decides (supported-test tables n entries e) (Supported tables entries e)
 unfolding Supported
-supported-decided tables m low entries e = covers-decided tables entries _ _ _ _ m low (e .table)
+decides-supported tables n entries e low = decides-covers tables entries _ _ _ _ n (e .table) low
 
 pub supported-or-not : (tables : Tables) → Levelled tables → (entries : List Entry) (e : Entry) → Or-not (Supported tables entries e)
 unfolding Supported

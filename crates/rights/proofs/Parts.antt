@@ -1,6 +1,6 @@
--- Laws of lists: membership and its tests, a list with one element more (Placed), a list parted in two (Parted).
+-- Laws of lists: membership, a list with one element more (Placed), parted in two (Parted), the first that passes a test.
 use mathlib.Core.Path.{_≡_, refl, sym, ap, subst, _∙_}
-use mathlib.Core.Bool.{Bool, true, false, cond, _&&_, _||_}
+use mathlib.Core.Bool.{Bool, true, false, cond}
 use mathlib.Core.Logic.{_⊎_, inl, inr, ⊎-elim}
 use mathlib.Core.List.{List, [], _∷_, _++_}
 use Prim.Native.Nat.{ℕ, suc, _≤_}
@@ -10,37 +10,15 @@ use Rattle.std.specs.declared.option.Option.{Option}
 use Rattle.std.specs.declared.option.Option.the-variants.{Some, None}
 use Rattle.std.specs.Orderings.{Decides}
 use Rattle.std.specs.shelf.Lists.{All}
-use Rattle.std.proofs.shelf.Tests.{both-ways, cases-bool, false≢true, leb-true, le-leb}
-use Rattle.std.proofs.shelf.Ways.{decides-or, decides-and, decides-like, not-from-decides}
+use Rattle.std.proofs.shelf.Tests.{both-ways, false≢true, leb-true, le-leb}
 use Rattle.rights.specs.Lists.{In, Rising, Placed, Parted, none, keep, leave}
+use Rattle.rights.proofs.Deciding.{Among, passing}
 use Rattle.rights.proofs.Within.{Or-not}
-
--- every element of xs is one of ys
-abbrev pub Among : {X : Type 0} → List X → List X → Type 0
-Among {X} xs ys = (x : X) → In x xs → In x ys
 
 pub decides-leb : (a b : ℕ) → Decides (leb a b) (a ≤ b)
 decides-leb a b = (leb-true a b, le-leb a b)
 
-pub decided : {P : Type 0} (b : Bool) → Decides b P → Or-not P
-decided true d = inl (d .0 refl)
-decided false d = inr (λ p. false≢true (d .1 p))
-
--- some element passes the test
-abbrev pub any : {X : Type 0} → (X → Bool) → List X → Bool
-any f [] = false
-any f (x ∷ xs) = f x || any f xs
-
--- each element passes it
-abbrev pub each : {X : Type 0} → (X → Bool) → List X → Bool
-each f [] = true
-each f (x ∷ xs) = f x && each f xs
-
--- the elements that pass the test, and those that do not
-abbrev pub passing : {X : Type 0} → (X → Bool) → List X → List X
-passing f [] = []
-passing f (x ∷ xs) = cond (f x) (x ∷ passing f xs) (passing f xs)
-
+-- the elements that do not pass the test
 abbrev pub failing : {X : Type 0} → (X → Bool) → List X → List X
 failing f [] = []
 failing f (x ∷ xs) = cond (f x) (failing f xs) (x ∷ failing f xs)
@@ -75,27 +53,6 @@ module _ {X : Type 0} where
   pub in-all : (P : X → Type 0) (xs : List X) → ((x : X) → In x xs → P x) → All P xs
   in-all P [] f = tt
   in-all P (y ∷ ys) f = (f y (inl refl), in-all P ys (λ x i. f x (inr i)))
-
-  pub decides-any : (f : X → Bool) (P : X → Type 0) → ((x : X) → Decides (f x) (P x)) → (xs : List X) → Decides (any f xs) ((x : X) × In x xs × P x)
-  decides-any f P d [] = ((λ e. absurd (false≢true e)), λ h. absurd (h .1))
-  decides-any f P d (x ∷ xs) = decides-like _ out back (decides-or (f x) (any f xs) (d x) (decides-any f P d xs))
-    where
-      out : P x ⊎ ((y : X) × In y xs × P y) → (y : X) × In y (x ∷ xs) × P y
-      out (inl p) = (x, inl refl, p)
-      out (inr h) = (h .0, inr (h .1), h .2)
-
-      split : (y : X) → In y (x ∷ xs) → P y → P x ⊎ ((y : X) × In y xs × P y)
-      split y (inl e) p = inl (subst P e p)
-      split y (inr i) p = inr (y, i, p)
-
-      back : (y : X) × In y (x ∷ xs) × P y → P x ⊎ ((y : X) × In y xs × P y)
-      back h = split (h .0) (h .1) (h .2)
-
-  pub decides-each : (f : X → Bool) (P : X → Type 0) (xs : List X) → ((x : X) → In x xs → Decides (f x) (P x)) → Decides (each f xs) ((x : X) → In x xs → P x)
-  decides-each f P [] d = ((λ e x i. absurd i), λ h. refl)
-  decides-each f P (y ∷ ys) d =
-    decides-like _ (λ h. all-in P (y ∷ ys) (h .0, in-all P ys (h .1))) (λ h. (h y (inl refl), λ x i. h x (inr i)))
-    (decides-and (f y) (each f ys) (d y (inl refl)) (decides-each f P ys (λ x i. d x (inr i))))
 
 -- what a list with one element more is, and what it was before, is settled by the element and the other list
 module _ {X : Type 0} (Before : X → X → Type 0) (one-way : (x y : X) → Before x y → Before y x → ⊥) (x : X) where

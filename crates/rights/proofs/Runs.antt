@@ -22,6 +22,7 @@ use Rattle.rights.specs.Pairs.{Before as PairBefore}
 use Rattle.rights.specs.Refusals.{Lent, sheet-checks}
 use Rattle.rights.specs.Runs.{next-state, Accepted, Step, refused, accepted, Call, Run, done, more}
 use Rattle.rights.specs.Tables.{unmade}
+use Rattle.rights.proofs.Access.{answers-unique}
 use Rattle.rights.proofs.Chain.{revoked-same}
 use Rattle.rights.proofs.Checks.{first-unique}
 use Rattle.rights.proofs.Order.{before-irreflexive, before-transitive}
@@ -70,12 +71,6 @@ becomes-same h (Command.Lend i s p t kind rank) k k′ g g′ a b = (a .0 ∙ sy
 becomes-same h (Command.Unlend i s p t kind rank) k k′ g g′ a b = same-revoke _ h g g′ k k′ a b
 becomes-same h (Command.May u p t) k k′ g g′ a b = same-plain k k′ g g′ _ a b
 
-answers-same : (h : History) (u : ℕ) (p : _) (t : ℕ) (a a′ : Answer) → Answers (h .pairs) (h .tables) (h .entries) u p t a → Answers (h .pairs) (h .tables) (h .entries) u p t a′ → a ≡ a′
-unfolding Answers
-answers-same h u p t a a′ x y =
-  let e : Some a ≡ Some a′ = first-unique _ (Some a) (Some a′) x y in
-  cc
-
 pub accepted-same : (h : History) (c : Command) (k : List Entry) (a a′ : Answer) → Accepted h c k a → Accepted h c k a′ → a ≡ a′
 unfolding Accepted
 accepted-same h (Command.User n c) k a a′ p q = p ∙ sym q
@@ -91,7 +86,7 @@ accepted-same h (Command.Give i s p sign t strength) k a a′ x y = x ∙ sym y
 accepted-same h (Command.Ungive i s p sign t strength) k a a′ x y = x ∙ sym y
 accepted-same h (Command.Lend i s p t kind rank) k a a′ x y = x ∙ sym y
 accepted-same h (Command.Unlend i s p t kind rank) k a a′ x y = x ∙ sym y
-accepted-same h (Command.May u p t) k a a′ x y = answers-same h u _ t a a′ x y
+accepted-same h (Command.May u p t) k a a′ x y = answers-unique (h .pairs) (h .tables) (h .entries) u _ t a a′ x y
 
 -- one right answer, struck list, next state and next history
 pub step-same : {lent : Lent} {state : State} {h : History} {c : Command} {k k′ : List Entry} {a a′ : Answer} {s s′ : State} {g g′ : History} → Step lent state h c k a s g → Step lent state h c k′ a′ s′ g′ → (k ≡ k′) × (a ≡ a′) × (s ≡ s′) × (g ≡ g′)
