@@ -7,7 +7,11 @@ pub mod Cover
 pub mod Deciding
 pub mod Holding
 pub mod Order
+pub mod Outcomes
+pub mod Pairs
 pub mod Parts
+pub mod Placing
+pub mod Refusals
 pub mod Runs
 pub mod Tables
 pub mod Within

@@ -12,7 +12,6 @@ use Rattle.rights.specs.declared.commands.Answer.{Answer}
 use Rattle.rights.specs.declared.commands.Command.{Command}
 use Rattle.rights.specs.declared.commands.State.{State}
 use Rattle.rights.specs.declared.entries.Entry.{Entry}
-use Rattle.rights.specs.declared.entries.Pair.{Pair}
 use Rattle.rights.specs.declared.faults.SheetFault.{SheetFault}
 use Rattle.rights.specs.Access.{rules, Answers}
 use Rattle.rights.specs.Checks.{Check, First}
@@ -26,15 +25,11 @@ use Rattle.rights.proofs.Access.{answers-unique}
 use Rattle.rights.proofs.Chain.{revoked-same}
 use Rattle.rights.proofs.Checks.{first-unique}
 use Rattle.rights.proofs.Order.{before-irreflexive, before-transitive}
+use Rattle.rights.proofs.Pairs.{pair-one-way}
 use Rattle.rights.proofs.Parts.{placed-same, unplaced-same, parted-same}
 
 pub before-one-way : (e f : Entry) → Before e f → Before f e → ⊥
 before-one-way e f p q = before-irreflexive e (before-transitive e f e p q)
-
-pub pair-one-way : (a b : Pair) → PairBefore a b → PairBefore b a → ⊥
-pair-one-way a b p q =
-  let e : a .member ≡ b .member = omega (arith, p .0, q .0) in
-  omega (arith, p .1 e, q .1 (sym e))
 
 -- the same end of one command
 abbrev Same : List Entry → History → List Entry → History → Type 0
