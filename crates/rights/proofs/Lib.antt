@@ -15,3 +15,4 @@ pub mod Refusals
 pub mod Runs
 pub mod Tables
 pub mod Within
+pub mod Worked

@@ -45,7 +45,7 @@ use Rattle.rights.proofs.Order.{decides-before, before-transitive, before-tota
 use Rattle.rights.proofs.Pairs.{pair-before, decides-pair-before, pair-transitive, pair-total}
 use Rattle.rights.proofs.Parts.{failing, parted-by, decides-leb}
 use Rattle.rights.proofs.Placing.{place, unplace, placed-in, unplaced-in, placed-rises, unplace-rises, kept-rises}
-use Rattle.rights.proofs.Refusals.{Sound, refusal, refusal-first}
+use Rattle.rights.proofs.Refusals.{Sound, refusal, refusal-first, decides-well-made}
 use Rattle.rights.proofs.Tables.{Low, low-made, low-none}
 use Rattle.rights.proofs.Within.{Or-not}
 
@@ -178,3 +178,148 @@ module _ (lent : Lent) (h : History) (sound : Sound h) where
   becomes (Command.Lend i s p t kind rank) x = (refl, (_, entry-placed (admin-entry i s p t kind rank) (h .entries) (sound .entries-rise) (x .1 .1 .1 .1 .0), refl))
   becomes (Command.Unlend i s p t kind rank) x = (_, revoked (admin-entry i s p t kind rank), refl)
   becomes (Command.May u p t) x = (refl, refl)
+
+-- soundness is kept
+none-stands : (tables : Tables) (t : ℕ) → (Stands tables t → ⊥) → tables t ≡ None
+none-stands tables t n = by (tables t) refl
+  where
+    by : (o : Option Table) → tables t ≡ o → tables t ≡ None
+    by None e = e
+    by (Some r) e = absurd (n (r, e))
+
+few-enrolled : (subjects : Subjects) (n : ℕ) (r : Subject) → n ≤ 255 → ((m : ℕ) → Registered subjects m → m ≤ 255) → (m : ℕ) → Registered (enrolled n r subjects) m → m ≤ 255
+few-enrolled subjects n r le few m (q, e) = by (eqb m n) refl e
+  where
+    by : (b : Bool) → eqb m n ≡ b → cond b (Some r) (subjects m) ≡ Some q → m ≤ 255
+    by true same e = let s = eqb-true m n same in omega arith
+    by false apart e = few m (q, e)
+
+few-made : (tables : Tables) (t : ℕ) (r : Table) → t ≤ 127 → ((m : ℕ) → Stands tables m → m ≤ 127) → (m : ℕ) → Stands (made t r tables) m → m ≤ 127
+few-made tables t r le few m (q, e) = by (eqb m t) refl e
+  where
+    by : (b : Bool) → eqb m t ≡ b → cond b (Some r) (tables m) ≡ Some q → m ≤ 127
+    by true same e = let s = eqb-true m t same in omega arith
+    by false apart e = few m (q, e)
+
+module _ (tables : Tables) (t : ℕ) where
+  unmade-stands : (m : ℕ) → Stands (unmade t tables) m → Stands tables m × (m ≡ t → ⊥)
+  unmade-stands m (q, e) = by (eqb m t) refl e
+    where
+      by : (b : Bool) → eqb m t ≡ b → cond b None (tables m) ≡ Some q → Stands tables m × (m ≡ t → ⊥)
+      by true same e = absurd (let z : _≡_ {A = ℕ} 0 1 = cc in omega arith)
+      by false apart e = ((q, e), eqb-false m t apart)
+
+  module _ (free : (v : ℕ) → Names tables v t → ⊥) where
+    mutual
+      level-unmade : {d n : ℕ} → Level tables d n → (d ≡ t → ⊥) → Level (unmade t tables) d n
+      level-unmade (level {t = d} {r = r} e over) apart =
+        level (ap (λ b. cond b None (tables d)) (ne-eqb d t apart) ∙ e) (over-unmade over (λ c i same. free d (r, e, subst (λ x. In x (r .names)) same i)))
+
+      over-unmade : {ds : List ℕ} {n : ℕ} → LevelOver tables ds n → ((c : ℕ) → In c ds → c ≡ t → ⊥) → LevelOver (unmade t tables) ds n
+      over-unmade over-none apart = over-none
+      over-unmade (over-more {d = d} l over) apart = over-more (level-unmade l (apart d (inl refl))) (over-unmade over (λ c i. apart c (inr i)))
+
+    low-unmade : (n d : ℕ) → Low tables n d → Low (unmade t tables) n d
+    low-unmade n d low s = let u = unmade-stands d s in let l = low (u .0) in (l .0, level-unmade (l .1) (u .1), l .2)
+
+module _ (lent : Lent) (h : History) (sound : Sound h) where
+  with-entries-sound : (es : List Entry) → Rising Before es → Sound (with-entries es h)
+  with-entries-sound es r = record { low = sound .low; few-subjects = sound .few-subjects; few-tables = sound .few-tables; pairs-rise = sound .pairs-rise; entries-rise = r }
+
+  with-pairs-sound : (ps : List Pair) → Rising PairBefore ps → Sound (with-pairs ps h)
+  with-pairs-sound ps r = record { low = sound .low; few-subjects = sound .few-subjects; few-tables = sound .few-tables; pairs-rise = r; entries-rise = sound .entries-rise }
+
+  with-subject-sound : (n : ℕ) (r : Subject) → n ≤ 255 → Sound (with-subjects (enrolled n r (h .subjects)) h)
+  with-subject-sound n r le = record { low = sound .low; few-subjects = few-enrolled (h .subjects) n r le (sound .few-subjects); few-tables = sound .few-tables; pairs-rise = sound .pairs-rise; entries-rise = sound .entries-rise }
+
+  with-table-sound : (t k : ℕ) (r : Table) → t ≤ 127 → (Stands (h .tables) t → ⊥) → LevelOver (h .tables) (r .names) k → k ≤ 7 → Sound (with-tables (made t r (h .tables)) h)
+  with-table-sound t k r le free over high =
+    record
+      { low = low-made (h .tables) t r 7 k (sound .low) (none-stands (h .tables) t free) over high
+      ; few-subjects = sound .few-subjects
+      ; few-tables = few-made (h .tables) t r le (sound .few-tables)
+      ; pairs-rise = sound .pairs-rise
+      ; entries-rise = sound .entries-rise
+      }
+
+  -- a number that is refused where it is greater
+  at-most : (n m : ℕ) → ((n ≤ m → ⊥) → ⊥) → n ≤ m
+  at-most n m = stable (either-way _ (decides-leb n m))
+
+  next-sound : (c : Command) → NoneOf (checks lent h c) → Sound (next h c)
+  unfolding checks user-checks group-checks base-checks view-checks drop-checks admit-checks remove-checks give-checks lend-checks grant-checks WellMade Revoked
+  next-sound (Command.User n c) x = with-subject-sound n _ (at-most n 255 (λ k. x .0 (λ r. k (r .0 .1))))
+  next-sound (Command.Group n) x = with-subject-sound n _ (at-most n 255 (λ k. x .0 (λ r. k (r .1))))
+  next-sound Command.Open x = sound
+  next-sound Command.Close x = sound
+  next-sound (Command.Admit i m g) x = with-pairs-sound _ (placed-rises PairBefore _ _ _ (pair-placed (pair m g) (h .pairs) (sound .pairs-rise) (x .1 .1 .1 .0)))
+  next-sound (Command.Remove i m g) x = with-pairs-sound _ (unplace-rises PairBefore pair-before decides-pair-before pair-transitive pair-total same-pair (pair m g) (h .pairs) (sound .pairs-rise))
+  next-sound (Command.Base i t) x = with-table-sound t 0 _ (at-most t 127 (λ k. x .0 (λ r. k (r .1)))) (x .1 .1 .1 .0) over-none (omega arith)
+  next-sound (Command.View i t d) x =
+    let made-up = stable (either-way _ (decides-well-made (h .tables) (tables-in d))) (x .1 .1 .1 .1 .1 .0) .3 in
+    with-table-sound t (made-up .0) _ (at-most t 127 (λ k. x .0 (λ r. k (r .1)))) (x .1 .1 .1 .1 .0) (made-up .1) (made-up .2)
+  next-sound (Command.Drop i t) x =
+    record
+      { low = λ d. low-unmade (h .tables) t (λ v n. x .1 .1 .1 .1 .0 (v, n)) 7 d (sound .low d)
+      ; few-subjects = sound .few-subjects
+      ; few-tables = λ m s. sound .few-tables m (unmade-stands (h .tables) t m s .0)
+      ; pairs-rise = sound .pairs-rise
+      ; entries-rise = kept-rises _ Before (parted-by (λ (e : Entry). e .table ≡ t → ⊥) (λ (e : Entry). not (eqb (e .table) t)) (h .entries) (λ e. decides-not _ (decides-eqb (e .table) t))) (sound .entries-rise)
+      }
+  next-sound (Command.Give i s p sign t strength) x = with-entries-sound _ (placed-rises Before _ _ _ (entry-placed (access-entry i s p sign t strength) (h .entries) (sound .entries-rise) (x .1 .1 .1 .1 .0)))
+  next-sound (Command.Ungive i s p sign t strength) x = with-entries-sound _ (kept-rises _ Before (revoked lent h sound (access-entry i s p sign t strength)) (sound .entries-rise))
+  next-sound (Command.Lend i s p t kind rank) x = with-entries-sound _ (placed-rises Before _ _ _ (entry-placed (admin-entry i s p t kind rank) (h .entries) (sound .entries-rise) (x .1 .1 .1 .1 .0)))
+  next-sound (Command.Unlend i s p t kind rank) x = with-entries-sound _ (kept-rises _ Before (revoked lent h sound (admin-entry i s p t kind rank)) (sound .entries-rise))
+  next-sound (Command.May u p t) x = sound
+
+pub empty-sound : Sound empty-history
+empty-sound = record { low = low-none 7; few-subjects = λ n s. absurd (let e = s .1 in let z : _≡_ {A = ℕ} 0 1 = cc in omega arith); few-tables = λ t s. absurd (let e = s .1 in let z : _≡_ {A = ℕ} 0 1 = cc in omega arith); pairs-rise = tt; entries-rise = tt }
+
+-- what comes of one command
+pub record Outcome : Type 0 where
+  pub struck : List Entry
+  pub reply : Answer
+  pub state : State
+  pub history : History
+
+abbrev pub outcome-of : State → History → Command → Option SheetFault → Outcome
+outcome-of state h c (Some f) = record { struck = []; reply = Answer.Refused f; state = state; history = h }
+outcome-of state h c None = record { struck = struck-by h c; reply = reply h c; state = next-state state c; history = next h c }
+
+unfoldable pub outcome : Lent → State → History → Command → Outcome
+unfolding refusal before same-entry
+outcome lent state h c = outcome-of state h c (refusal lent h state c)
+
+abbrev Ends : Lent → State → History → Command → Outcome → Type 0
+Ends lent state h c o = Step lent state h c (o .struck) (o .reply) (o .state) (o .history) × Sound (o .history)
+
+pub step-by : (lent : Lent) (state : State) (h : History) (c : Command) → Sound h → Ends lent state h c (outcome lent state h c)
+unfolding outcome
+step-by lent state h c sound = by (refusal lent h state c) (refusal-first lent h sound state c)
+  where
+    by : (o : Option SheetFault) → First (sheet-checks lent h state c) o → Ends lent state h c (outcome-of state h c o)
+    by (Some f) x = (refused x, sound)
+    by None x = let n = none-of-checks lent h state c x in (accepted x (replied lent h sound c) (becomes lent h sound c n), next-sound lent h sound c n)
+
+-- what comes of a list of commands
+pub record Outcomes : Type 0 where
+  pub struck : List (List Entry)
+  pub answers : List Answer
+  pub state : State
+  pub history : History
+
+unfoldable pub outcomes : State → History → List Call → Outcomes
+outcomes state h [] = record { struck = []; answers = []; state = state; history = h }
+outcomes state h (c ∷ cs) =
+  let o = outcome (c .lent) state h (c .command) in
+  let r = outcomes (o .state) (o .history) cs in
+  record { struck = o .struck ∷ r .struck; answers = o .reply ∷ r .answers; state = r .state; history = r .history }
+
+-- every list of commands has a run from a sound history
+pub run-by : (state : State) (h : History) (cs : List Call) → Sound h → let o = outcomes state h cs in Run state h cs (o .struck) (o .answers) (o .state) (o .history)
+unfolding outcomes
+run-by state h [] sound = done
+run-by state h (c ∷ cs) sound =
+  let o = outcome (c .lent) state h (c .command) in
+  let s = step-by (c .lent) state h (c .command) sound in
+  more (s .0) (run-by (o .state) (o .history) cs (s .1))

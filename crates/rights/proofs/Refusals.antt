@@ -170,7 +170,7 @@ module _ (tables : Tables) where
   abbrev pub well-made-test : List ℕ → Bool
   well-made-test ds = leb 1 (length ds) && (leb (length ds) 8 && (rising-test ds && each-test (λ d. level-test 7 d) ds))
 
-  decides-well-made : (ds : List ℕ) → Decides (well-made-test ds) (WellMade tables ds)
+  pub decides-well-made : (ds : List ℕ) → Decides (well-made-test ds) (WellMade tables ds)
   unfolding WellMade
   decides-well-made ds = decides-and-4 _ _ _ _ (decides-leb 1 (length ds)) (decides-leb (length ds) 8) (decides-rising ds) (decides-over 7 ds)
 

@@ -17,3 +17,4 @@ pub mod Runs
 pub mod Subjects
 pub mod Tables
 pub mod Within
+pub mod Worked

@@ -3,6 +3,7 @@ mod commands;
 mod entries;
 mod faults;
 mod records;
+mod theorems;
 mod vocabulary;
 
 pub use commands::Answer;
@@ -23,3 +24,4 @@ pub use vocabulary::Rank;
 pub use vocabulary::Right;
 pub use vocabulary::Sign;
 pub use vocabulary::Strength;
+pub use theorems::worked_sheet_stands;
