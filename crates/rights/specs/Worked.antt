@@ -1,8 +1,9 @@
 -- The worked example: thirty commands in order, from the empty history, with the answers that the rules give.
--- worked-calls: the commands. worked-answers: their answers. worked-struck: what each of them strikes.
+-- Leads: what a list of commands leads to. worked-commands, worked-answers, worked-struck: the example, line by line.
 -- Worked: the commands have a run with these answers and these struck entries, and no run of them has others.
 use mathlib.Core.Path.{_≡_}
 use mathlib.Core.List.{List, [], _∷_, _++_, map}
+use Prim.Native.Nat.{ℕ}
 use lib.Dec.{lit≤}
 use lib.ListN.{replicate}
 use Rattle.rights.specs.declared.commands.Answer.{Answer}
@@ -16,16 +17,23 @@ use Rattle.rights.specs.declared.faults.SheetFault.{SheetFault}
 use Rattle.rights.specs.Faults.{number, layer}
 use Rattle.rights.specs.History.{History, empty-history}
 use Rattle.rights.specs.Read.{access-entry, admin-entry}
-use Rattle.rights.specs.Refusals.{Lent}
 use Rattle.rights.specs.Runs.{Call, Run}
 
--- every call is lent a slate and a list of 4096, over a book of 4096 and a roll of 2048
-abbrev pub whole-lent : Lent
-whole-lent = record { slate = 4096; list = 4096; book-ceiling = 4096; roll-ceiling = 2048 }
+-- table t alone
+abbrev pub naming : ℕ → Named
+naming t = record { count = 1; tables = t ∷ replicate 13 0; few = lit≤ tt }
 
--- table 5 alone
-abbrev pub only-five : Named
-only-five = record { count = 1; tables = 5 ∷ replicate 13 0; few = lit≤ tt }
+-- every call is lent a slate and a list of 4096, over a book of 4096 and a roll of 2048
+abbrev pub calls : List Command → List Call
+calls commands = map (λ c. record { lent = record { slate = 4096; list = 4096; book-ceiling = 4096; roll-ceiling = 2048 }; command = c }) commands
+
+-- from the empty history, these commands strike these entries and have these answers
+abbrev pub Leads : List Command → List (List Entry) → List Answer → Type 0
+Leads commands struck answers = (state : State) × (h : History) × Run State.SettingUp empty-history (calls commands) struck answers state h
+
+-- and they have no others
+abbrev pub LeadsOnly : List Command → List (List Entry) → List Answer → Type 0
+LeadsOnly commands struck answers = (struck′ : List (List Entry)) (answers′ : List Answer) → Leads commands struck′ answers′ → (struck′ ≡ struck) × (answers′ ≡ answers)
 
 abbrev pub worked-commands : List Command
 worked-commands =
@@ -47,7 +55,7 @@ worked-commands =
     Command.May 2 0 5 ∷ -- 16
     Command.Give 1 2 0 0 5 0 ∷ -- 17: a weak plus for person 2
     Command.May 2 0 5 ∷ -- 18
-    Command.View 1 6 only-five ∷ -- 19
+    Command.View 1 6 (naming 5) ∷ -- 19
     Command.Give 1 10 0 0 6 0 ∷ -- 20: a weak plus for group 10 on the view
     Command.May 2 0 6 ∷ -- 21
     Command.Give 1 11 0 1 5 1 ∷ -- 22: a strong minus for group 11
@@ -60,9 +68,6 @@ worked-commands =
     Command.Give 3 2 0 1 5 1 ∷ -- 29: person 3 would grant a strong minus
     Command.Unlend 1 3 0 5 0 0 ∷ -- 30: what person 3 was lent is withdrawn
     []
-
-abbrev pub worked-calls : List Call
-worked-calls = map (λ c. record { lent = whole-lent; command = c }) worked-commands
 
 abbrev pub clash-found : SheetFault
 clash-found = SheetFault.Register RegisterFault.Clash
@@ -96,10 +101,9 @@ worked-answers =
 abbrev pub worked-struck : List (List Entry)
 worked-struck = replicate 29 [] ++ ((access-entry 3 2 0 0 5 0 ∷ admin-entry 1 3 0 5 0 0 ∷ []) ∷ [])
 
--- the two refusals are 13 and 9, both of layer 2
 abbrev pub Worked : Type 0
-Worked =
-    ((state : State) × (h : History) × Run State.SettingUp empty-history worked-calls worked-struck worked-answers state h) ×
-    ((struck : List (List Entry)) (answers : List Answer) (state : State) (h : History) →
-      Run State.SettingUp empty-history worked-calls struck answers state h → (struck ≡ worked-struck) × (answers ≡ worked-answers)) ×
-    ((number clash-found ≡ 13) × (layer clash-found ≡ 2) × (number mandate-lacking ≡ 9) × (layer mandate-lacking ≡ 2))
+Worked = Leads worked-commands worked-struck worked-answers × LeadsOnly worked-commands worked-struck worked-answers
+
+-- the two refusals are 13 and 9, both of layer 2
+abbrev pub WorkedNumbers : Type 0
+WorkedNumbers = (number clash-found ≡ 13) × (layer clash-found ≡ 2) × (number mandate-lacking ≡ 9) × (layer mandate-lacking ≡ 2)

@@ -1,5 +1,6 @@
-use Rattle.rights.proofs.Worked.{worked-stands}
+use mathlib.Core.Path.{refl}
+use Rattle.rights.proofs.Worked.{worked-stands, worked-numbers}
 use Rattle.rights.proofs.theorems.worked_sheet_stands.Needs as need
 
 pub returns : need.returns
-returns c = worked-stands
+returns c = record { stands = worked-stands; numbers = worked-numbers; many = refl }
