@@ -121,17 +121,17 @@ module _ (tables : Tables) where
 
     marking-done : (marked rest : List Entry) → Marking marked rest → ((e : Entry) → In e rest → Supported tables marked e → ⊥) → Marked marked
     marking-done marked rest m nothing =
-      record
-        { sound = chain-members marked (m .chain)
-        ; complete = closed-round marked (λ e s u. ⊎-elim (λ i. i) (λ i. absurd (nothing e i u)) (m .every e s))
+        record {
+          sound = chain-members marked (m .chain);
+          complete = closed-round marked (λ e s u. ⊎-elim (λ i. i) (λ i. absurd (nothing e i u)) (m .every e s));
         }
 
     marking-more : (marked rest : List Entry) (x : Entry) (l : List Entry) → Marking marked rest → Supported tables marked x → In x rest → Among l rest → ((e : Entry) → In e rest → (e ≡ x) ⊎ In e l) → Marking (x ∷ marked) l
     marking-more marked rest x l m u i part split =
-      record
-        { chain = (m .stand x i, u, m .chain)
-        ; stand = λ e j. m .stand e (part e j)
-        ; every = λ e s. ⊎-elim (λ j. inl (inr j)) (λ j. ⊎-elim (λ q. inl (inl q)) inr (split e j)) (m .every e s)
+        record {
+          chain = (m .stand x i, u, m .chain);
+          stand = λ e j. m .stand e (part e j);
+          every = λ e s. ⊎-elim (λ j. inl (inr j)) (λ j. ⊎-elim (λ q. inl (inl q)) inr (split e j)) (m .every e s);
         }
 
   module _ (Standing : Entry → Type 0) (test : List Entry → Entry → Bool) (judges : (m : List Entry) (e : Entry) → Decides (test m e) (Supported tables m e)) where
@@ -151,15 +151,15 @@ module _ (tables : Tables) where
   module _ (test : List Entry → Entry → Bool) (judges : (m : List Entry) (e : Entry) → Decides (test m e) (Supported tables m e)) where
     pub decides-chain : (entries : List Entry) (e : Entry) → Decides (chain-test test entries e) (HasChain tables (λ f. In f entries) e)
     decides-chain entries =
-      let start : Marking (λ f. In f entries) [] entries = record { chain = tt; stand = λ e i. i; every = λ e i. inr i } in
-      marked-decides (λ f. In f entries) _ (marks-all (λ f. In f entries) test judges (length entries) [] entries (omega arith) start)
+        let start : Marking (λ f. In f entries) [] entries = record { chain = tt; stand = λ e i. i; every = λ e i. inr i } in
+        marked-decides (λ f. In f entries) _ (marks-all (λ f. In f entries) test judges (length entries) [] entries (omega arith) start)
 
     others-marking : (named : Entry) (entries : List Entry) → Marking (Others entries named) [] (others-of named entries)
     others-marking named entries =
-      record
-        { chain = tt
-        ; stand = λ e i. let r = failing-in (λ f. same-entry f named) entries e i in (r .0, not-from-decides (same-entry e named) (decides-same e named) (r .1))
-        ; every = λ e s. inr (in-failing (λ f. same-entry f named) entries e (s .0) (differs e (s .1)))
+        record {
+          chain = tt;
+          stand = λ e i. let r = failing-in (λ f. same-entry f named) entries e i in (r .0, not-from-decides (same-entry e named) (decides-same e named) (r .1));
+          every = λ e s. inr (in-failing (λ f. same-entry f named) entries e (s .0) (differs e (s .1)));
         }
       where
         differs : (e : Entry) → (e ≡ named → ⊥) → same-entry e named ≡ false
@@ -167,8 +167,8 @@ module _ (tables : Tables) where
 
     pub decides-others : (named : Entry) (entries : List Entry) (e : Entry) → Decides (chain-test test (others-of named entries) e) (HasChain tables (Others entries named) e)
     decides-others named entries =
-      marked-decides (Others entries named) _
-      (marks-all (Others entries named) test judges (length (others-of named entries)) [] (others-of named entries) (omega arith) (others-marking named entries))
+        marked-decides (Others entries named) _
+        (marks-all (Others entries named) test judges (length (others-of named entries)) [] (others-of named entries) (omega arith) (others-marking named entries))
 
     -- what a revocation keeps and strikes, by the test
     pub revoked-by : (named : Entry) (entries : List Entry) → Revoked tables named entries (passing (chain-test test (others-of named entries)) entries) (failing (chain-test test (others-of named entries)) entries)

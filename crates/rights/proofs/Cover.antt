@@ -51,17 +51,17 @@ decides-right k r p (Right.Access q sign s) = ((λ e. absurd (false≢true e)), 
     apart : {k′ : Kind} {r′ : Rank} → Right.Access q sign s ≡ Right.Admin p k′ r′ → ⊥
     apart e = let z : _≡_ {A = ℕ} 0 1 = cc in omega arith
 decides-right k r p (Right.Admin q k′ r′) =
-  decides-like _
-  (λ h. (k′, r′, ap (λ x. Right.Admin x k′ r′) (privilege-injective q p (h .0)), h .1 .0, h .1 .1))
-  (λ h. back (h .0) (h .1) (h .2) (h .3) (h .4))
-  (decides-and _ _ (decides-eqb _ _) (decides-and _ _ (decides-leb _ _) (decides-leb _ _)))
+    decides-like _
+    (λ h. (k′, r′, ap (λ x. Right.Admin x k′ r′) (privilege-injective q p (h .0)), h .1 .0, h .1 .1))
+    (λ h. back (h .0) (h .1) (h .2) (h .3) (h .4))
+    (decides-and _ _ (decides-eqb _ _) (decides-and _ _ (decides-leb _ _) (decides-leb _ _)))
   where
     back : (a : Kind) (b : Rank) → Right.Admin q k′ r′ ≡ Right.Admin p a b → kind-number k ≤ kind-number a → rank-number r ≤ rank-number b → (privilege-number q ≡ privilege-number p) × ((kind-number k ≤ kind-number k′) × (rank-number r ≤ rank-number r′))
     back a b e m n =
-      let ep : q ≡ p = cc in
-      let ek : a ≡ k′ = cc in
-      let er : b ≡ r′ = cc in
-      (ap privilege-number ep, (subst (λ x. kind-number k ≤ kind-number x) ek m, subst (λ x. rank-number r ≤ rank-number x) er n))
+        let ep : q ≡ p = cc in
+        let ek : a ≡ k′ = cc in
+        let er : b ≡ r′ = cc in
+        (ap privilege-number ep, (subst (λ x. kind-number k ≤ kind-number x) ek m, subst (λ x. rank-number r ≤ rank-number x) er n))
 
 module _ (tables : Tables) where
   pub covers-grows : (es fs : List Entry) → Among es fs → {x : ℕ} {k : Kind} {r : Rank} {p : Privilege} {t : ℕ} → Covers tables es x k r p t → Covers tables fs x k r p t
@@ -84,8 +84,8 @@ module _ (tables : Tables) where
 
     pub covers-sources : {t : ℕ} → Covers tables entries x k r p t → Sources t
     covers-sources (by-owning b o) =
-      let e : b .0 ≡ o .0 = cc (b .1, o .1) in
-      inr (b .0, b .1, (subst (λ (w : Table). w .owner ≡ x) (sym e) (o .2), λ d i. absurd (subst (In d) (b .2) i)))
+        let e : b .0 ≡ o .0 = cc (b .1, o .1) in
+        inr (b .0, b .1, (subst (λ (w : Table). w .owner ≡ x) (sym e) (o .2), λ d i. absurd (subst (In d) (b .2) i)))
     covers-sources (by-entry e i l) = inl (e, i, l)
     covers-sources (by-names v o all) = inr (o .0, o .1, (o .2, λ d i. all d (o .0, o .1, i)))
 
@@ -102,8 +102,8 @@ module _ (tables : Tables) where
 
     decides-lends : (t : ℕ) (e : Entry) → Decides (lends-test t e) (Lends e x k r p t)
     decides-lends t e =
-      decides-like _ (λ h. (h .0, h .1 .0, h .1 .1)) (λ h. (h .0, (h .1, h .2)))
-      (decides-and _ _ (decides-eqb _ _) (decides-and _ _ (decides-eqb _ _) (decides-right k r p (e .right))))
+        decides-like _ (λ h. (h .0, h .1 .0, h .1 .1)) (λ h. (h .0, (h .1, h .2)))
+        (decides-and _ _ (decides-eqb _ _) (decides-and _ _ (decides-eqb _ _) (decides-right k r p (e .right))))
 
     -- what owning a table gives, by a test for the tables that it names
     abbrev pub owned-test : (ℕ → Bool) → Option Table → Bool
@@ -121,16 +121,16 @@ module _ (tables : Tables) where
         apart : (w : Table) → None ≡ Some w → ⊥
         apart w e = let z : _≡_ {A = ℕ} 0 1 = cc in omega arith
     decides-owned f (Some w) d =
-      decides-like _ (λ h. (w, refl, (h .0, h .1))) (λ h. back (h .0) (h .1) (h .2))
-      (decides-and _ _ (decides-eqb _ _) (decides-each (λ c. Covers tables entries x k r p c) f (w .names) (d w refl)))
+        decides-like _ (λ h. (w, refl, (h .0, h .1))) (λ h. back (h .0) (h .1) (h .2))
+        (decides-and _ _ (decides-eqb _ _) (decides-each (λ c. Covers tables entries x k r p c) f (w .names) (d w refl)))
       where
         back : (v : Table) → Some w ≡ Some v → Owned v → Owned w
         back v e h = let s : v ≡ w = cc in subst Owned s h
 
     decides-sources : (f : ℕ → Bool) (t : ℕ) → ((d : ℕ) → Names tables t d → Decides (f d) (Covers tables entries x k r p d)) → Decides (some-test (lends-test t) entries || owned-test f (tables t)) (Covers tables entries x k r p t)
     decides-sources f t d =
-      decides-like _ (sources-covers t) covers-sources
-      (decides-or _ _ (decides-some (λ e. Lends e x k r p t) (lends-test t) entries (λ e _. decides-lends t e)) (decides-owned f (tables t) (λ w e c i. d c (w, e, i))))
+        decides-like _ (sources-covers t) covers-sources
+        (decides-or _ _ (decides-some (λ e. Lends e x k r p t) (lends-test t) entries (λ e _. decides-lends t e)) (decides-owned f (tables t) (λ w e c i. d c (w, e, i))))
 
     -- cover on a table of level at most n is decided
     pub decides-covers : (n t : ℕ) → Low tables n t → Decides (covers-test n t) (Covers tables entries x k r p t)

@@ -3,6 +3,7 @@ pub mod Bits
 pub mod Chain
 pub mod Checks
 pub mod Clash
+pub mod Contrasts
 pub mod Cover
 pub mod Deciding
 pub mod Holding

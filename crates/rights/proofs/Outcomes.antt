@@ -30,8 +30,23 @@ use Rattle.rights.specs.Lists.{In, Rising, Placed, Parted}
 use Rattle.rights.specs.Pairs.{pair, Before as PairBefore}
 use Rattle.rights.specs.Read.{privilege-of, mark-of, access-entry, admin-entry, tables-in}
 use Rattle.rights.specs.Refusals.{
-  Lent, WellMade, user-checks, group-checks, open-checks, base-checks, view-checks, drop-checks, admit-checks,
-  remove-checks, grant-checks, give-checks, lend-checks, revoke-checks, may-checks, checks, sheet-checks,
+  Lent,
+  WellMade,
+  user-checks,
+  group-checks,
+  open-checks,
+  base-checks,
+  view-checks,
+  drop-checks,
+  admit-checks,
+  remove-checks,
+  grant-checks,
+  give-checks,
+  lend-checks,
+  revoke-checks,
+  may-checks,
+  checks,
+  sheet-checks,
 }
 use Rattle.rights.specs.Runs.{next-state, Accepted, Step, refused, accepted, Call, Run, done, more}
 use Rattle.rights.specs.Subjects.{Subjects, Registered, enrolled}
@@ -213,7 +228,7 @@ module _ (tables : Tables) (t : ℕ) where
     mutual
       level-unmade : {d n : ℕ} → Level tables d n → (d ≡ t → ⊥) → Level (unmade t tables) d n
       level-unmade (level {t = d} {r = r} e over) apart =
-        level (ap (λ b. cond b None (tables d)) (ne-eqb d t apart) ∙ e) (over-unmade over (λ c i same. free d (r, e, subst (λ x. In x (r .names)) same i)))
+          level (ap (λ b. cond b None (tables d)) (ne-eqb d t apart) ∙ e) (over-unmade over (λ c i same. free d (r, e, subst (λ x. In x (r .names)) same i)))
 
       over-unmade : {ds : List ℕ} {n : ℕ} → LevelOver tables ds n → ((c : ℕ) → In c ds → c ≡ t → ⊥) → LevelOver (unmade t tables) ds n
       over-unmade over-none apart = over-none
@@ -234,12 +249,12 @@ module _ (lent : Lent) (h : History) (sound : Sound h) where
 
   with-table-sound : (t k : ℕ) (r : Table) → t ≤ 127 → (Stands (h .tables) t → ⊥) → LevelOver (h .tables) (r .names) k → k ≤ 7 → Sound (with-tables (made t r (h .tables)) h)
   with-table-sound t k r le free over high =
-    record
-      { low = low-made (h .tables) t r 7 k (sound .low) (none-stands (h .tables) t free) over high
-      ; few-subjects = sound .few-subjects
-      ; few-tables = few-made (h .tables) t r le (sound .few-tables)
-      ; pairs-rise = sound .pairs-rise
-      ; entries-rise = sound .entries-rise
+      record {
+        low = low-made (h .tables) t r 7 k (sound .low) (none-stands (h .tables) t free) over high;
+        few-subjects = sound .few-subjects;
+        few-tables = few-made (h .tables) t r le (sound .few-tables);
+        pairs-rise = sound .pairs-rise;
+        entries-rise = sound .entries-rise;
       }
 
   -- a number that is refused where it is greater
@@ -256,15 +271,15 @@ module _ (lent : Lent) (h : History) (sound : Sound h) where
   next-sound (Command.Remove i m g) x = with-pairs-sound _ (unplace-rises PairBefore pair-before decides-pair-before pair-transitive pair-total same-pair (pair m g) (h .pairs) (sound .pairs-rise))
   next-sound (Command.Base i t) x = with-table-sound t 0 _ (at-most t 127 (λ k. x .0 (λ r. k (r .1)))) (x .1 .1 .1 .0) over-none (omega arith)
   next-sound (Command.View i t d) x =
-    let made-up = stable (either-way _ (decides-well-made (h .tables) (tables-in d))) (x .1 .1 .1 .1 .1 .0) .3 in
-    with-table-sound t (made-up .0) _ (at-most t 127 (λ k. x .0 (λ r. k (r .1)))) (x .1 .1 .1 .1 .0) (made-up .1) (made-up .2)
+      let made-up = stable (either-way _ (decides-well-made (h .tables) (tables-in d))) (x .1 .1 .1 .1 .1 .0) .3 in
+      with-table-sound t (made-up .0) _ (at-most t 127 (λ k. x .0 (λ r. k (r .1)))) (x .1 .1 .1 .1 .0) (made-up .1) (made-up .2)
   next-sound (Command.Drop i t) x =
-    record
-      { low = λ d. low-unmade (h .tables) t (λ v n. x .1 .1 .1 .1 .0 (v, n)) 7 d (sound .low d)
-      ; few-subjects = sound .few-subjects
-      ; few-tables = λ m s. sound .few-tables m (unmade-stands (h .tables) t m s .0)
-      ; pairs-rise = sound .pairs-rise
-      ; entries-rise = kept-rises _ Before (parted-by (λ (e : Entry). e .table ≡ t → ⊥) (λ (e : Entry). not (eqb (e .table) t)) (h .entries) (λ e. decides-not _ (decides-eqb (e .table) t))) (sound .entries-rise)
+      record {
+        low = λ d. low-unmade (h .tables) t (λ v n. x .1 .1 .1 .1 .0 (v, n)) 7 d (sound .low d);
+        few-subjects = sound .few-subjects;
+        few-tables = λ m s. sound .few-tables m (unmade-stands (h .tables) t m s .0);
+        pairs-rise = sound .pairs-rise;
+        entries-rise = kept-rises _ Before (parted-by (λ (e : Entry). e .table ≡ t → ⊥) (λ (e : Entry). not (eqb (e .table) t)) (h .entries) (λ e. decides-not _ (decides-eqb (e .table) t))) (sound .entries-rise);
       }
   next-sound (Command.Give i s p sign t strength) x = with-entries-sound _ (placed-rises Before _ _ _ (entry-placed (access-entry i s p sign t strength) (h .entries) (sound .entries-rise) (x .1 .1 .1 .1 .0)))
   next-sound (Command.Ungive i s p sign t strength) x = with-entries-sound _ (kept-rises _ Before (revoked lent h sound (access-entry i s p sign t strength)) (sound .entries-rise))
@@ -311,15 +326,15 @@ pub record Outcomes : Type 0 where
 unfoldable pub outcomes : State → History → List Call → Outcomes
 outcomes state h [] = record { struck = []; answers = []; state = state; history = h }
 outcomes state h (c ∷ cs) =
-  let o = outcome (c .lent) state h (c .command) in
-  let r = outcomes (o .state) (o .history) cs in
-  record { struck = o .struck ∷ r .struck; answers = o .reply ∷ r .answers; state = r .state; history = r .history }
+    let o = outcome (c .lent) state h (c .command) in
+    let r = outcomes (o .state) (o .history) cs in
+    record { struck = o .struck ∷ r .struck; answers = o .reply ∷ r .answers; state = r .state; history = r .history }
 
 -- every list of commands has a run from a sound history
 pub run-by : (state : State) (h : History) (cs : List Call) → Sound h → let o = outcomes state h cs in Run state h cs (o .struck) (o .answers) (o .state) (o .history)
 unfolding outcomes
 run-by state h [] sound = done
 run-by state h (c ∷ cs) sound =
-  let o = outcome (c .lent) state h (c .command) in
-  let s = step-by (c .lent) state h (c .command) sound in
-  more (s .0) (run-by (o .state) (o .history) cs (s .1))
+    let o = outcome (c .lent) state h (c .command) in
+    let s = step-by (c .lent) state h (c .command) sound in
+    more (s .0) (run-by (o .state) (o .history) cs (s .1))

@@ -27,8 +27,8 @@ decides-pair-before a b = decides-and _ _ (decides-leb (a .member) (b .member)) 
 
 pub pair-one-way : (a b : Pair) → Before a b → Before b a → ⊥
 pair-one-way a b p q =
-  let e : a .member ≡ b .member = omega (arith, p .0, q .0) in
-  omega (arith, p .1 e, q .1 (sym e))
+    let e : a .member ≡ b .member = omega (arith, p .0, q .0) in
+    omega (arith, p .1 e, q .1 (sym e))
 
 pub pair-transitive : (a b c : Pair) → Before a b → Before b c → Before a c
 pair-transitive a b c p q = (omega (arith, p .0, q .0), λ e. by (omega (arith, p .0, q .0)) (omega (arith, p .0, q .0)))

@@ -61,36 +61,36 @@ module _ {X : Type 0} (Before : X → X → Type 0) (one-way : (x y : X) → Bef
   same-more [] b (y ∷ f′) b′ e r r′ = absurd (one-way x y (subst (All (Before x)) e (r .0) .0) (all-in (Before y) (f′ ++ (x ∷ b′)) (r′ .0) x (in-middle x f′ b′)))
   same-more (y ∷ f) b [] b′ e r r′ = absurd (one-way x y (subst (All (Before x)) (sym e) (r′ .0) .0) (all-in (Before y) (f ++ (x ∷ b)) (r .0) x (in-middle x f b)))
   same-more (y ∷ f) b (z ∷ f′) b′ e r r′ =
-    let h : y ≡ z = cc in
-    let t : f ++ b ≡ f′ ++ b′ = cc in
-    let s = same-more f b f′ b′ t (r .1) (r′ .1) in
-    cc
+      let h : y ≡ z = cc in
+      let t : f ++ b ≡ f′ ++ b′ = cc in
+      let s = same-more f b f′ b′ t (r .1) (r′ .1) in
+      cc
 
   same-less : (f b f′ b′ : List X) → f ++ (x ∷ b) ≡ f′ ++ (x ∷ b′) → Rising Before (f ++ (x ∷ b)) → Rising Before (f′ ++ (x ∷ b′)) → f ++ b ≡ f′ ++ b′
   same-less [] b [] b′ e r r′ = cc
   same-less [] b (y ∷ f′) b′ e r r′ =
-    let h : y ≡ x = cc in
-    let k : Before y x = all-in (Before y) (f′ ++ (x ∷ b′)) (r′ .0) x (in-middle x f′ b′) in
-    absurd (one-way y x k (subst (λ z. Before z y) h (subst (λ z. Before y z) (sym h) k)))
+      let h : y ≡ x = cc in
+      let k : Before y x = all-in (Before y) (f′ ++ (x ∷ b′)) (r′ .0) x (in-middle x f′ b′) in
+      absurd (one-way y x k (subst (λ z. Before z y) h (subst (λ z. Before y z) (sym h) k)))
   same-less (y ∷ f) b [] b′ e r r′ =
-    let h : y ≡ x = cc in
-    let k : Before y x = all-in (Before y) (f ++ (x ∷ b)) (r .0) x (in-middle x f b) in
-    absurd (one-way y x k (subst (λ z. Before z y) h (subst (λ z. Before y z) (sym h) k)))
+      let h : y ≡ x = cc in
+      let k : Before y x = all-in (Before y) (f ++ (x ∷ b)) (r .0) x (in-middle x f b) in
+      absurd (one-way y x k (subst (λ z. Before z y) h (subst (λ z. Before y z) (sym h) k)))
   same-less (y ∷ f) b (z ∷ f′) b′ e r r′ =
-    let h : y ≡ z = cc in
-    let t : f ++ (x ∷ b) ≡ f′ ++ (x ∷ b′) = cc in
-    let s = same-less f b f′ b′ t (r .1) (r′ .1) in
-    cc
+      let h : y ≡ z = cc in
+      let t : f ++ (x ∷ b) ≡ f′ ++ (x ∷ b′) = cc in
+      let s = same-less f b f′ b′ t (r .1) (r′ .1) in
+      cc
 
   pub placed-same : (xs ys zs : List X) → Placed Before x xs ys → Placed Before x xs zs → ys ≡ zs
   unfolding Placed
   placed-same xs ys zs p q =
-    p .3 ∙ same-more (p .0) (p .1) (q .0) (q .1) (sym (p .2) ∙ q .2) (subst (Rising Before) (p .3) (p .4)) (subst (Rising Before) (q .3) (q .4)) ∙ sym (q .3)
+      p .3 ∙ same-more (p .0) (p .1) (q .0) (q .1) (sym (p .2) ∙ q .2) (subst (Rising Before) (p .3) (p .4)) (subst (Rising Before) (q .3) (q .4)) ∙ sym (q .3)
 
   pub unplaced-same : (xs ys zs : List X) → Placed Before x xs zs → Placed Before x ys zs → xs ≡ ys
   unfolding Placed
   unplaced-same xs ys zs p q =
-    p .2 ∙ same-less (p .0) (p .1) (q .0) (q .1) (sym (p .3) ∙ q .3) (subst (Rising Before) (p .3) (p .4)) (subst (Rising Before) (q .3) (q .4)) ∙ sym (q .2)
+      p .2 ∙ same-less (p .0) (p .1) (q .0) (q .1) (sym (p .3) ∙ q .3) (subst (Rising Before) (p .3) (p .4)) (subst (Rising Before) (q .3) (q .4)) ∙ sym (q .2)
 
 -- a list is parted by a property in one way
 module _ {X : Type 0} (Keeps : X → Type 0) where
@@ -172,10 +172,10 @@ module _ {X : Type 0} (f : X → Bool) where
       by true e o s = record { passes = e; fewer = refl; stood = inl refl; others = λ x i. inr i; or-else = λ x i. i }
       by false e None s = λ x i. ⊎-elim (λ q. ap f q ∙ e) (s x) i
       by false e (Some r) s =
-        record
-          { passes = s .passes
-          ; fewer = ap suc (s .fewer)
-          ; stood = inr (s .stood)
-          ; others = λ x i. ⊎-elim inl (λ j. inr (s .others x j)) i
-          ; or-else = λ x i. ⊎-elim (λ q. inr (inl q)) (λ j. ⊎-elim inl (λ k. inr (inr k)) (s .or-else x j)) i
+          record {
+            passes = s .passes;
+            fewer = ap suc (s .fewer);
+            stood = inr (s .stood);
+            others = λ x i. ⊎-elim inl (λ j. inr (s .others x j)) i;
+            or-else = λ x i. ⊎-elim (λ q. inr (inl q)) (λ j. ⊎-elim inl (λ k. inr (inr k)) (s .or-else x j)) i;
           }

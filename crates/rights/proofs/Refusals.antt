@@ -26,9 +26,31 @@ use Rattle.rights.specs.Lists.{In, Rising}
 use Rattle.rights.specs.Pairs.{pair, Before as PairBefore}
 use Rattle.rights.specs.Read.{access-entry, admin-entry, tables-in}
 use Rattle.rights.specs.Refusals.{
-  Lent, Turn, preparing, working, asking, turn, InTurn, StrangeIssuer, NoMark, WellMade,
-  user-checks, group-checks, open-checks, base-checks, view-checks, drop-checks, admit-checks, remove-checks,
-  grant-checks, give-checks, lend-checks, revoke-checks, may-checks, checks, sheet-checks,
+  Lent,
+  Turn,
+  preparing,
+  working,
+  asking,
+  turn,
+  InTurn,
+  StrangeIssuer,
+  NoMark,
+  WellMade,
+  user-checks,
+  group-checks,
+  open-checks,
+  base-checks,
+  view-checks,
+  drop-checks,
+  admit-checks,
+  remove-checks,
+  grant-checks,
+  give-checks,
+  lend-checks,
+  revoke-checks,
+  may-checks,
+  checks,
+  sheet-checks,
 }
 use Rattle.rights.specs.Subjects.{Subjects, Registered, IsPerson, IsGroup, IsCreator}
 use Rattle.rights.specs.Tables.{Table, Tables, Stands, IsView, Owns, Names, Level, level, LevelOver, over-none, over-more}
@@ -138,11 +160,11 @@ module _ (tables : Tables) where
   each-over : (n : ℕ) (ds : List ℕ) → ((d : ℕ) → In d ds → LevelUnder n d) → OverAtMost n ds
   each-over n [] h = (0, over-none, omega arith)
   each-over n (d ∷ ds) h =
-    let a = h d (inl refl) in
-    let b = each-over n ds (λ c i. h c (inr i)) in
-    let lt = a .2 in
-    let le = b .2 in
-    (max (a .0 + 1) (b .0), over-more (a .1) (b .1), omega arith)
+      let a = h d (inl refl) in
+      let b = each-over n ds (λ c i. h c (inr i)) in
+      let lt = a .2 in
+      let le = b .2 in
+      (max (a .0 + 1) (b .0), over-more (a .1) (b .1), omega arith)
 
   -- the table stands, and every table that it names has a level below n
   abbrev pub level-test : ℕ → ℕ → Bool
@@ -152,8 +174,8 @@ module _ (tables : Tables) where
   decides-level : (n t : ℕ) → Decides (level-test n t) (LevelUnder n t)
   decides-level zero t = ((λ e. absurd (true≢false (sym e))), λ h. absurd (let lt = h .2 in omega arith))
   decides-level (suc n) t =
-    decides-like _ out (λ h. back (h .1) (h .2))
-    (decides-table (λ r. (d : ℕ) → In d (r .names) → LevelUnder n d) (λ r. each-test (λ d. level-test n d) (r .names)) (λ r. decides-each (λ d. LevelUnder n d) (λ d. level-test n d) (r .names) (λ d _. decides-level n d)) (tables t))
+      decides-like _ out (λ h. back (h .1) (h .2))
+      (decides-table (λ r. (d : ℕ) → In d (r .names) → LevelUnder n d) (λ r. each-test (λ d. level-test n d) (r .names)) (λ r. decides-each (λ d. LevelUnder n d) (λ d. level-test n d) (r .names) (λ d _. decides-level n d)) (tables t))
     where
       Stood : Type 0
       Stood = (r : Table) × (tables t ≡ Some r) × ((d : ℕ) → In d (r .names) → LevelUnder n d)
@@ -194,11 +216,11 @@ named-below tables t (suc n) = names-test tables n t || named-below tables t n
 module _ (lent : Lent) (h : History) where
   abbrev pub grant-tests : (Option Subject → Bool) → Bool → ℕ → ℕ → ℕ → List Bool → List Bool
   grant-tests recipient in-range i s t more =
-    not (leb i 255 && (subject-number-test s && (leb t 127 && in-range))) ∷
-    (strange-test (h .subjects) i || not (recipient (h .subjects s))) ∷
-    not (stands-test (h .tables) t) ∷
-    eqb i 0 ∷
-    more
+      not (leb i 255 && (subject-number-test s && (leb t 127 && in-range))) ∷
+      (strange-test (h .subjects) i || not (recipient (h .subjects s))) ∷
+      not (stands-test (h .tables) t) ∷
+      eqb i 0 ∷
+      more
 
   abbrev pub full-test : Bool
   full-test = eqb (length (h .entries)) (lent .book-ceiling)
@@ -208,14 +230,14 @@ module _ (lent : Lent) (h : History) where
 
   abbrev pub revoke-tests : (Option Subject → Bool) → Bool → ℕ → ℕ → ℕ → Entry → List Bool
   revoke-tests recipient in-range i s t e =
-    ltb (lent .slate) 4096 ∷ ltb (lent .list) (length (h .entries)) ∷ grant-tests recipient in-range i s t (not (some-test (same-entry e) (h .entries)) ∷ [])
+      ltb (lent .slate) 4096 ∷ ltb (lent .list) (length (h .entries)) ∷ grant-tests recipient in-range i s t (not (some-test (same-entry e) (h .entries)) ∷ [])
 
   abbrev pub pair-tests : ℕ → ℕ → ℕ → List Bool → List Bool
   pair-tests i m g more =
-    not (leb i 255 && (subject-number-test m && subject-number-test g)) ∷
-    (strange-test (h .subjects) i || (not (registered-test (h .subjects m)) || not (group-test (h .subjects g)))) ∷
-    not (eqb i 0) ∷
-    more
+      not (leb i 255 && (subject-number-test m && subject-number-test g)) ∷
+      (strange-test (h .subjects) i || (not (registered-test (h .subjects m)) || not (group-test (h .subjects g)))) ∷
+      not (eqb i 0) ∷
+      more
 
   -- a test for each check of the command's list
   abbrev pub tests : Command → List Bool
@@ -224,65 +246,76 @@ module _ (lent : Lent) (h : History) where
   tests Command.Open = not (person-below (h .subjects) 256) ∷ []
   tests Command.Close = []
   tests (Command.Admit i m g) =
-    pair-tests i m g (
-    some-test (same-pair (pair m g)) (h .pairs) ∷
-    within-test (h .pairs) g m ∷
-    eqb (length (h .pairs)) (lent .roll-ceiling) ∷
-    clash-test (pair m g ∷ h .pairs) (h .tables) (h .entries) (λ t. 7) (candidates (pair m g ∷ h .pairs) (h .tables) (h .entries)) ∷
-    [])
+      pair-tests i m g (
+      some-test (same-pair (pair m g)) (h .pairs) ∷
+      within-test (h .pairs) g m ∷
+      eqb (length (h .pairs)) (lent .roll-ceiling) ∷
+      clash-test (pair m g ∷ h .pairs) (h .tables) (h .entries) (λ t. 7) (candidates (pair m g ∷ h .pairs) (h .tables) (h .entries)) ∷
+      [])
   tests (Command.Remove i m g) = pair-tests i m g (not (some-test (same-pair (pair m g)) (h .pairs)) ∷ [])
   tests (Command.Base i t) = not (leb i 255 && leb t 127) ∷ strange-test (h .subjects) i ∷ no-mark-test (h .subjects) i ∷ stands-test (h .tables) t ∷ []
   tests (Command.View i t d) =
-    not (leb i 255 && (leb t 127 && each-test (λ c. leb c 127) (tables-in d))) ∷
-    strange-test (h .subjects) i ∷
-    not (each-test (stands-test (h .tables)) (tables-in d)) ∷
-    no-mark-test (h .subjects) i ∷
-    stands-test (h .tables) t ∷
-    not (well-made-test (h .tables) (tables-in d)) ∷
-    []
+      not (leb i 255 && (leb t 127 && each-test (λ c. leb c 127) (tables-in d))) ∷
+      strange-test (h .subjects) i ∷
+      not (each-test (stands-test (h .tables)) (tables-in d)) ∷
+      no-mark-test (h .subjects) i ∷
+      stands-test (h .tables) t ∷
+      not (well-made-test (h .tables) (tables-in d)) ∷
+      []
   tests (Command.Drop i t) =
-    not (leb i 255 && leb t 127) ∷
-    strange-test (h .subjects) i ∷
-    not (stands-test (h .tables) t) ∷
-    (eqb i 0 || not (owns-test (h .tables) i t)) ∷
-    named-below (h .tables) t 128 ∷
-    []
+      not (leb i 255 && leb t 127) ∷
+      strange-test (h .subjects) i ∷
+      not (stands-test (h .tables) t) ∷
+      (eqb i 0 || not (owns-test (h .tables) i t)) ∷
+      named-below (h .tables) t 128 ∷
+      []
   tests (Command.Give i s p sign t strength) =
-    let e = access-entry i s p sign t strength in
-    grant-tests registered-test (access-range p sign strength) i s t (
-    some-test (same-entry e) (h .entries) ∷
-    not (supported-test (h .tables) 7 (h .entries) e) ∷
-    (eqb sign 1 && view-test (h .tables) t) ∷
-    full-test ∷
-    clash-test (h .pairs) (h .tables) (e ∷ h .entries) (λ t. 7) (candidates (h .pairs) (h .tables) (e ∷ h .entries)) ∷
-    [])
+      let e = access-entry i s p sign t strength in
+      grant-tests registered-test (access-range p sign strength) i s t (
+      some-test (same-entry e) (h .entries) ∷
+      not (supported-test (h .tables) 7 (h .entries) e) ∷
+      (eqb sign 1 && view-test (h .tables) t) ∷
+      full-test ∷
+      clash-test (h .pairs) (h .tables) (e ∷ h .entries) (λ t. 7) (candidates (h .pairs) (h .tables) (e ∷ h .entries)) ∷
+      [])
   tests (Command.Ungive i s p sign t strength) = revoke-tests registered-test (access-range p sign strength) i s t (access-entry i s p sign t strength)
   tests (Command.Lend i s p t kind rank) =
-    let e = admin-entry i s p t kind rank in
-    grant-tests person-test (access-range p kind rank) i s t (some-test (same-entry e) (h .entries) ∷ not (supported-test (h .tables) 7 (h .entries) e) ∷ full-test ∷ [])
+      let e = admin-entry i s p t kind rank in
+      grant-tests person-test (access-range p kind rank) i s t (some-test (same-entry e) (h .entries) ∷ not (supported-test (h .tables) 7 (h .entries) e) ∷ full-test ∷ [])
   tests (Command.Unlend i s p t kind rank) = revoke-tests person-test (access-range p kind rank) i s t (admin-entry i s p t kind rank)
   tests (Command.May u p t) =
-    ltb (lent .slate) 4096 ∷
-    not (subject-number-test u && (leb p 3 && leb t 127)) ∷
-    not (person-test (h .subjects u)) ∷
-    not (stands-test (h .tables) t) ∷
-    []
+      ltb (lent .slate) 4096 ∷
+      not (subject-number-test u && (leb p 3 && leb t 127)) ∷
+      not (person-test (h .subjects u)) ∷
+      not (stands-test (h .tables) t) ∷
+      []
 
   -- tests for grants, over those for what follows
   decides-grant : (Recipient : Subjects → ℕ → Type 0) (recipient : Option Subject → Bool) → ((s : ℕ) → Decides (recipient (h .subjects s)) (Recipient (h .subjects) s)) → (InRange : Type 0) (in-range : Bool) → Decides in-range InRange → (i s t : ℕ) (cs : List (Check RegisterFault)) (bs : List Bool) → Decided cs bs → Decided (grant-checks lent h Recipient InRange i s t cs) (grant-tests recipient in-range i s t bs)
   unfolding grant-checks
-  decides-grant Recipient recipient d InRange in-range r i s t cs bs rest =
-    (decides-not _ (decides-and-4 _ _ _ _ (decides-leb i 255) (decides-subject-number s) (decides-leb t 127) r),
-    (decides-or _ _ (decides-strange (h .subjects) i) (decides-not _ (d s)),
-    (decides-not _ (decides-stands (h .tables) t),
-    (decides-eqb i 0,
-    rest))))
+  decides-grant Recipient recipient d InRange in-range r i s t cs bs rest = (
+    decides-not _ (decides-and-4 _ _ _ _ (decides-leb i 255) (decides-subject-number s) (decides-leb t 127) r),
+    (
+      decides-or _ _ (decides-strange (h .subjects) i) (decides-not _ (d s)),
+      (
+        decides-not _ (decides-stands (h .tables) t),
+        (
+          decides-eqb i 0,
+          rest,
+        ),
+      ),
+    ),
+  )
 
   decides-revoke : (Recipient : Subjects → ℕ → Type 0) (recipient : Option Subject → Bool) → ((s : ℕ) → Decides (recipient (h .subjects s)) (Recipient (h .subjects) s)) → (InRange : Type 0) (in-range : Bool) → Decides in-range InRange → (i s t : ℕ) (e : Entry) → Decided (revoke-checks lent h Recipient InRange i s t e) (revoke-tests recipient in-range i s t e)
   unfolding revoke-checks
-  decides-revoke Recipient recipient d InRange in-range r i s t e =
-    (decides-ltb (lent .slate) 4096, (decides-ltb (lent .list) (length (h .entries)),
-    decides-grant Recipient recipient d InRange in-range r i s t _ _ (decides-not _ (decides-entry-in e (h .entries)), tt)))
+  decides-revoke Recipient recipient d InRange in-range r i s t e = (
+    decides-ltb (lent .slate) 4096,
+    (
+      decides-ltb (lent .list) (length (h .entries)),
+      decides-grant Recipient recipient d InRange in-range r i s t _ _ (decides-not _ (decides-entry-in e (h .entries)), tt),
+    ),
+  )
 
   decides-range : (p a b : ℕ) → Decides (access-range p a b) ((p ≤ 3) × (a ≤ 1) × (b ≤ 1))
   decides-range p a b = decides-and-3 _ _ _ (decides-leb p 3) (decides-leb a 1) (decides-leb b 1)
@@ -290,13 +323,13 @@ module _ (lent : Lent) (h : History) where
   module _ (sound : Sound h) where
     nobody : Decides (not (person-below (h .subjects) 256)) ((n : ℕ) → IsPerson (h .subjects) n → ⊥)
     nobody =
-      decides-like _ (λ (no-one : (k : ℕ) × (k < 256) × IsPerson (h .subjects) k → ⊥) n p. let le = sound .few-subjects n (Subject.Person (p .0), p .1) in no-one (n, omega arith, p)) (λ all x. all (x .0) (x .2))
-      (decides-not _ (decides-below-or (λ k. person-test (h .subjects k)) (λ k. IsPerson (h .subjects) k) (person-below (h .subjects)) (λ k. decides-person (h .subjects k)) refl (λ _. refl) 256))
+        decides-like _ (λ (no-one : (k : ℕ) × (k < 256) × IsPerson (h .subjects) k → ⊥) n p. let le = sound .few-subjects n (Subject.Person (p .0), p .1) in no-one (n, omega arith, p)) (λ all x. all (x .0) (x .2))
+        (decides-not _ (decides-below-or (λ k. person-test (h .subjects k)) (λ k. IsPerson (h .subjects) k) (person-below (h .subjects)) (λ k. decides-person (h .subjects k)) refl (λ _. refl) 256))
 
     named-somewhere : (t : ℕ) → Decides (named-below (h .tables) t 128) ((v : ℕ) × Names (h .tables) v t)
     named-somewhere t =
-      decides-like _ (λ x. (x .0, x .2)) (λ x. let le = sound .few-tables (x .0) (x .1 .0, x .1 .1) in (x .0, omega arith, x .1))
-      (decides-below-or (λ v. names-test (h .tables) v t) (λ v. Names (h .tables) v t) (named-below (h .tables) t) (λ v. decides-names (h .tables) v t) refl (λ _. refl) 128)
+        decides-like _ (λ x. (x .0, x .2)) (λ x. let le = sound .few-tables (x .0) (x .1 .0, x .1 .1) in (x .0, omega arith, x .1))
+        (decides-below-or (λ v. names-test (h .tables) v t) (λ v. Names (h .tables) v t) (named-below (h .tables) t) (λ v. decides-names (h .tables) v t) refl (λ _. refl) 128)
 
     pub tests-decide : (c : Command) → Decided (checks lent h c) (tests c)
     unfolding checks user-checks group-checks open-checks base-checks view-checks drop-checks admit-checks remove-checks give-checks lend-checks may-checks
@@ -304,64 +337,125 @@ module _ (lent : Lent) (h : History) where
     tests-decide (Command.Group n) = (decides-not _ (decides-subject-number n), (decides-registered (h .subjects n), tt))
     tests-decide Command.Open = (nobody, tt)
     tests-decide Command.Close = tt
-    tests-decide (Command.Admit i m g) =
-      (decides-not _ (decides-and-3 _ _ _ (decides-leb i 255) (decides-subject-number m) (decides-subject-number g)),
-      (decides-or _ _ (decides-strange (h .subjects) i) (decides-or _ _ (decides-not _ (decides-registered (h .subjects m))) (decides-not _ (decides-group (h .subjects g)))),
-      (decides-not _ (decides-eqb i 0),
-      (decides-pair-in (pair m g) (h .pairs),
-      (decides-within (h .pairs) g m,
-      (decides-eqb (length (h .pairs)) (lent .roll-ceiling),
-      (decides-clashing (pair m g ∷ h .pairs) (h .tables) (h .entries) (λ t. 7) (sound .low),
-      tt)))))))
-    tests-decide (Command.Remove i m g) =
-      (decides-not _ (decides-and-3 _ _ _ (decides-leb i 255) (decides-subject-number m) (decides-subject-number g)),
-      (decides-or _ _ (decides-strange (h .subjects) i) (decides-or _ _ (decides-not _ (decides-registered (h .subjects m))) (decides-not _ (decides-group (h .subjects g)))),
-      (decides-not _ (decides-eqb i 0),
-      (decides-not _ (decides-pair-in (pair m g) (h .pairs)),
-      tt))))
+    tests-decide (Command.Admit i m g) = (
+      decides-not _ (decides-and-3 _ _ _ (decides-leb i 255) (decides-subject-number m) (decides-subject-number g)),
+      (
+        decides-or _ _ (decides-strange (h .subjects) i) (decides-or _ _ (decides-not _ (decides-registered (h .subjects m))) (decides-not _ (decides-group (h .subjects g)))),
+        (
+          decides-not _ (decides-eqb i 0),
+          (
+            decides-pair-in (pair m g) (h .pairs),
+            (
+              decides-within (h .pairs) g m,
+              (
+                decides-eqb (length (h .pairs)) (lent .roll-ceiling),
+                (
+                  decides-clashing (pair m g ∷ h .pairs) (h .tables) (h .entries) (λ t. 7) (sound .low),
+                  tt,
+                ),
+              ),
+            ),
+          ),
+        ),
+      ),
+    )
+    tests-decide (Command.Remove i m g) = (
+      decides-not _ (decides-and-3 _ _ _ (decides-leb i 255) (decides-subject-number m) (decides-subject-number g)),
+      (
+        decides-or _ _ (decides-strange (h .subjects) i) (decides-or _ _ (decides-not _ (decides-registered (h .subjects m))) (decides-not _ (decides-group (h .subjects g)))),
+        (
+          decides-not _ (decides-eqb i 0),
+          (
+            decides-not _ (decides-pair-in (pair m g) (h .pairs)),
+            tt,
+          ),
+        ),
+      ),
+    )
     tests-decide (Command.Base i t) =
-      (decides-not _ (decides-and _ _ (decides-leb i 255) (decides-leb t 127)), (decides-strange (h .subjects) i, (decides-no-mark (h .subjects) i, (decides-stands (h .tables) t, tt))))
-    tests-decide (Command.View i t d) =
-      (decides-not _ (decides-and-3 _ _ _ (decides-leb i 255) (decides-leb t 127) (decides-all (λ c. c ≤ 127) (λ c. leb c 127) (tables-in d) (λ c. decides-leb c 127))),
-      (decides-strange (h .subjects) i,
-      (decides-not _ (decides-all (Stands (h .tables)) (stands-test (h .tables)) (tables-in d) (decides-stands (h .tables))),
-      (decides-no-mark (h .subjects) i,
-      (decides-stands (h .tables) t,
-      (decides-not _ (decides-well-made (h .tables) (tables-in d)),
-      tt))))))
-    tests-decide (Command.Drop i t) =
-      (decides-not _ (decides-and _ _ (decides-leb i 255) (decides-leb t 127)),
-      (decides-strange (h .subjects) i,
-      (decides-not _ (decides-stands (h .tables) t),
-      (decides-or _ _ (decides-eqb i 0) (decides-not _ (decides-owns (h .tables) i t)),
-      (named-somewhere t,
-      tt)))))
+        (decides-not _ (decides-and _ _ (decides-leb i 255) (decides-leb t 127)), (decides-strange (h .subjects) i, (decides-no-mark (h .subjects) i, (decides-stands (h .tables) t, tt))))
+    tests-decide (Command.View i t d) = (
+      decides-not _ (decides-and-3 _ _ _ (decides-leb i 255) (decides-leb t 127) (decides-all (λ c. c ≤ 127) (λ c. leb c 127) (tables-in d) (λ c. decides-leb c 127))),
+      (
+        decides-strange (h .subjects) i,
+        (
+          decides-not _ (decides-all (Stands (h .tables)) (stands-test (h .tables)) (tables-in d) (decides-stands (h .tables))),
+          (
+            decides-no-mark (h .subjects) i,
+            (
+              decides-stands (h .tables) t,
+              (
+                decides-not _ (decides-well-made (h .tables) (tables-in d)),
+                tt,
+              ),
+            ),
+          ),
+        ),
+      ),
+    )
+    tests-decide (Command.Drop i t) = (
+      decides-not _ (decides-and _ _ (decides-leb i 255) (decides-leb t 127)),
+      (
+        decides-strange (h .subjects) i,
+        (
+          decides-not _ (decides-stands (h .tables) t),
+          (
+            decides-or _ _ (decides-eqb i 0) (decides-not _ (decides-owns (h .tables) i t)),
+            (
+              named-somewhere t,
+              tt,
+            ),
+          ),
+        ),
+      ),
+    )
     tests-decide (Command.Give i s p sign t strength) =
-      let e = access-entry i s p sign t strength in
-      decides-grant Registered registered-test (λ x. decides-registered (h .subjects x)) _ _ (decides-range p sign strength) i s t _ _
-      (decides-entry-in e (h .entries),
-      (decides-not _ (decides-supported (h .tables) 7 (h .entries) e (sound .low t)),
-      (decides-and _ _ (decides-eqb sign 1) (decides-view (h .tables) t),
-      (decides-eqb (length (h .entries)) (lent .book-ceiling),
-      (decides-clashing (h .pairs) (h .tables) (e ∷ h .entries) (λ t. 7) (sound .low),
-      tt)))))
+        let e = access-entry i s p sign t strength in
+        decides-grant Registered registered-test (λ x. decides-registered (h .subjects x)) _ _ (decides-range p sign strength) i s t _ _ (
+          decides-entry-in e (h .entries),
+          (
+            decides-not _ (decides-supported (h .tables) 7 (h .entries) e (sound .low t)),
+            (
+              decides-and _ _ (decides-eqb sign 1) (decides-view (h .tables) t),
+              (
+                decides-eqb (length (h .entries)) (lent .book-ceiling),
+                (
+                  decides-clashing (h .pairs) (h .tables) (e ∷ h .entries) (λ t. 7) (sound .low),
+                  tt,
+                ),
+              ),
+            ),
+          ),
+        )
     tests-decide (Command.Ungive i s p sign t strength) =
-      decides-revoke Registered registered-test (λ x. decides-registered (h .subjects x)) _ _ (decides-range p sign strength) i s t (access-entry i s p sign t strength)
+        decides-revoke Registered registered-test (λ x. decides-registered (h .subjects x)) _ _ (decides-range p sign strength) i s t (access-entry i s p sign t strength)
     tests-decide (Command.Lend i s p t kind rank) =
-      let e = admin-entry i s p t kind rank in
-      decides-grant IsPerson person-test (λ x. decides-person (h .subjects x)) _ _ (decides-range p kind rank) i s t _ _
-      (decides-entry-in e (h .entries),
-      (decides-not _ (decides-supported (h .tables) 7 (h .entries) e (sound .low t)),
-      (decides-eqb (length (h .entries)) (lent .book-ceiling),
-      tt)))
+        let e = admin-entry i s p t kind rank in
+        decides-grant IsPerson person-test (λ x. decides-person (h .subjects x)) _ _ (decides-range p kind rank) i s t _ _ (
+          decides-entry-in e (h .entries),
+          (
+            decides-not _ (decides-supported (h .tables) 7 (h .entries) e (sound .low t)),
+            (
+              decides-eqb (length (h .entries)) (lent .book-ceiling),
+              tt,
+            ),
+          ),
+        )
     tests-decide (Command.Unlend i s p t kind rank) =
-      decides-revoke IsPerson person-test (λ x. decides-person (h .subjects x)) _ _ (decides-range p kind rank) i s t (admin-entry i s p t kind rank)
-    tests-decide (Command.May u p t) =
-      (decides-ltb (lent .slate) 4096,
-      (decides-not _ (decides-and-3 _ _ _ (decides-subject-number u) (decides-leb p 3) (decides-leb t 127)),
-      (decides-not _ (decides-person (h .subjects u)),
-      (decides-not _ (decides-stands (h .tables) t),
-      tt))))
+        decides-revoke IsPerson person-test (λ x. decides-person (h .subjects x)) _ _ (decides-range p kind rank) i s t (admin-entry i s p t kind rank)
+    tests-decide (Command.May u p t) = (
+      decides-ltb (lent .slate) 4096,
+      (
+        decides-not _ (decides-and-3 _ _ _ (decides-subject-number u) (decides-leb p 3) (decides-leb t 127)),
+        (
+          decides-not _ (decides-person (h .subjects u)),
+          (
+            decides-not _ (decides-stands (h .tables) t),
+            tt,
+          ),
+        ),
+      ),
+    )
 
 -- the turn of a word
 abbrev pub turn-test : State → Turn → Bool

@@ -43,8 +43,8 @@ same-grant e h g g′ p q = p .2 ∙ ap (λ l. with-entries l h) (placed-same Be
 
 same-revoke : (e : Entry) (h g g′ : History) (k k′ : List Entry) → Revoking e h k g → Revoking e h k′ g′ → Same k g k′ g′
 same-revoke e h g g′ k k′ p q =
-  let s = revoked-same (h .tables) e (h .entries) (p .0) k (q .0) k′ (p .1) (q .1) in
-  (s .1, p .2 ∙ ap (λ l. with-entries l h) (s .0) ∙ sym (q .2))
+    let s = revoked-same (h .tables) e (h .entries) (p .0) k (q .0) k′ (p .1) (q .1) in
+    (s .1, p .2 ∙ ap (λ l. with-entries l h) (s .0) ∙ sym (q .2))
 
 pub becomes-same : (h : History) (c : Command) (k k′ : List Entry) (g g′ : History) → Becomes h c k g → Becomes h c k′ g′ → Same k g k′ g′
 unfolding Becomes
@@ -53,13 +53,13 @@ becomes-same h (Command.Group n) k k′ g g′ p q = same-plain k k′ g g′ _ 
 becomes-same h Command.Open k k′ g g′ p q = same-plain k k′ g g′ _ p q
 becomes-same h Command.Close k k′ g g′ p q = same-plain k k′ g g′ _ p q
 becomes-same h (Command.Admit i m n) k k′ g g′ p q =
-  (p .0 ∙ sym (q .0), p .1 .2 ∙ ap (λ l. with-pairs l h) (placed-same PairBefore pair-one-way _ (h .pairs) _ _ (p .1 .1) (q .1 .1)) ∙ sym (q .1 .2))
+    (p .0 ∙ sym (q .0), p .1 .2 ∙ ap (λ l. with-pairs l h) (placed-same PairBefore pair-one-way _ (h .pairs) _ _ (p .1 .1) (q .1 .1)) ∙ sym (q .1 .2))
 becomes-same h (Command.Remove i m n) k k′ g g′ p q =
-  (p .0 ∙ sym (q .0), p .1 .2 ∙ ap (λ l. with-pairs l h) (unplaced-same PairBefore pair-one-way _ _ _ (h .pairs) (p .1 .1) (q .1 .1)) ∙ sym (q .1 .2))
+    (p .0 ∙ sym (q .0), p .1 .2 ∙ ap (λ l. with-pairs l h) (unplaced-same PairBefore pair-one-way _ _ _ (h .pairs) (p .1 .1) (q .1 .1)) ∙ sym (q .1 .2))
 becomes-same h (Command.Base i t) k k′ g g′ p q = same-plain k k′ g g′ _ p q
 becomes-same h (Command.View i t d) k k′ g g′ p q = same-plain k k′ g g′ _ p q
 becomes-same h (Command.Drop i t) k k′ g g′ p q =
-  (p .0 ∙ sym (q .0), p .1 .3 ∙ ap (λ l. with-tables (unmade t (h .tables)) (with-entries l h)) (parted-same (λ (e : Entry). e .table ≡ t → ⊥) (p .1 .2) (q .1 .2) .0) ∙ sym (q .1 .3))
+    (p .0 ∙ sym (q .0), p .1 .3 ∙ ap (λ l. with-tables (unmade t (h .tables)) (with-entries l h)) (parted-same (λ (e : Entry). e .table ≡ t → ⊥) (p .1 .2) (q .1 .2) .0) ∙ sym (q .1 .3))
 becomes-same h (Command.Give i s p sign t strength) k k′ g g′ a b = (a .0 ∙ sym (b .0), same-grant _ h g g′ (a .1) (b .1))
 becomes-same h (Command.Ungive i s p sign t strength) k k′ g g′ a b = same-revoke _ h g g′ k k′ a b
 becomes-same h (Command.Lend i s p t kind rank) k k′ g g′ a b = (a .0 ∙ sym (b .0), same-grant _ h g g′ (a .1) (b .1))
@@ -86,9 +86,9 @@ accepted-same h (Command.May u p t) k a a′ x y = answers-unique (h .pairs) (h 
 -- one right answer, struck list, next state and next history
 pub step-same : {lent : Lent} {state : State} {h : History} {c : Command} {k k′ : List Entry} {a a′ : Answer} {s s′ : State} {g g′ : History} → Step lent state h c k a s g → Step lent state h c k′ a′ s′ g′ → (k ≡ k′) × (a ≡ a′) × (s ≡ s′) × (g ≡ g′)
 step-same {lent} {state} {h} {c} (refused {f = f} p) (refused {f = f′} q) =
-  let e : Some f ≡ Some f′ = first-unique _ (Some f) (Some f′) p q in
-  let r : f ≡ f′ = cc in
-  (refl, ap Answer.Refused r, refl, refl)
+    let e : Some f ≡ Some f′ = first-unique _ (Some f) (Some f′) p q in
+    let r : f ≡ f′ = cc in
+    (refl, ap Answer.Refused r, refl, refl)
 step-same (refused {f = f} p) (accepted q _ _) = absurd (some-none f (first-unique _ (Some f) None p q))
   where
     some-none : (f : SheetFault) → Some f ≡ None → ⊥
@@ -98,21 +98,21 @@ step-same (accepted p _ _) (refused {f = f} q) = absurd (some-none f (first-uniq
     some-none : (f : SheetFault) → Some f ≡ None → ⊥
     some-none f e = let z : _≡_ {A = ℕ} 0 1 = cc in omega arith
 step-same {lent} {state} {h} {c} (accepted {a = a} {struck = k} {h′ = g} p x b) (accepted {a = a′} {struck = k′} {h′ = g′} q y b′) =
-  let s = becomes-same h c k k′ g g′ b b′ in
-  (s .0, accepted-same h c k a a′ x (subst (λ l. Accepted h c l a′) (sym (s .0)) y), refl, s .1)
+    let s = becomes-same h c k k′ g g′ b b′ in
+    (s .0, accepted-same h c k a a′ x (subst (λ l. Accepted h c l a′) (sym (s .0)) y), refl, s .1)
 
 -- and so for a list of commands
 pub run-same : {state : State} {h : History} {cs : List Call} {ks ks′ : List (List Entry)} {l l′ : List Answer} {s s′ : State} {g g′ : History} → Run state h cs ks l s g → Run state h cs ks′ l′ s′ g′ → (ks ≡ ks′) × (l ≡ l′) × (s ≡ s′) × (g ≡ g′)
 run-same done done = (refl, refl, refl, refl)
 run-same (more {state′ = s} {h′ = g} {struck = k} {all = ks} {a = a} {answers = l} p x) (more {state′ = s′} {state″ = e} {h′ = g′} {h″ = f} {cs = cs} {struck = k′} {all = ks′} {a = a′} {answers = l′} q y) =
-  let same = step-same p q in
-  let y′ : Run s g cs ks′ l′ e f = subst (λ v. Run v g cs ks′ l′ e f) (sym (same .2)) (subst (λ v. Run s′ v cs ks′ l′ e f) (sym (same .3)) y) in
-  let rest = run-same x y′ in
-  let first : k ≡ k′ = same .0 in
-  let others : ks ≡ ks′ = rest .0 in
-  let answer : a ≡ a′ = same .1 in
-  let answers : l ≡ l′ = rest .1 in
-  ((cc), (cc), rest .2, rest .3)
+    let same = step-same p q in
+    let y′ : Run s g cs ks′ l′ e f = subst (λ v. Run v g cs ks′ l′ e f) (sym (same .2)) (subst (λ v. Run s′ v cs ks′ l′ e f) (sym (same .3)) y) in
+    let rest = run-same x y′ in
+    let first : k ≡ k′ = same .0 in
+    let others : ks ≡ ks′ = rest .0 in
+    let answer : a ≡ a′ = same .1 in
+    let answers : l ≡ l′ = rest .1 in
+    ((cc), (cc), rest .2, rest .3)
 
 -- a question is answered by yes or no, and an accepted command never by a refusal
 answered-word : (h : History) (u : ℕ) (p : _) (t : ℕ) (f : SheetFault) → Answers (h .pairs) (h .tables) (h .entries) u p t (Answer.Refused f) → ⊥

@@ -19,8 +19,8 @@ computed commands = outcomes State.SettingUp empty-history (calls commands)
 pub leads : (commands : List Command) (struck : List (List Entry)) (answers : List Answer) → (computed commands) .struck ≡ struck → (computed commands) .answers ≡ answers → Leads commands struck answers
 unfolding computed
 leads commands struck answers ks l =
-  let o = outcomes State.SettingUp empty-history (calls commands) in
-  (o .state, o .history, subst₂ (λ ks l. Run State.SettingUp empty-history (calls commands) ks l (o .state) (o .history)) ks l (run-by State.SettingUp empty-history (calls commands) empty-sound))
+    let o = outcomes State.SettingUp empty-history (calls commands) in
+    (o .state, o .history, subst₂ (λ ks l. Run State.SettingUp empty-history (calls commands) ks l (o .state) (o .history)) ks l (run-by State.SettingUp empty-history (calls commands) empty-sound))
 
 pub leads-only : (commands : List Command) (struck : List (List Entry)) (answers : List Answer) → Leads commands struck answers → LeadsOnly commands struck answers
 leads-only commands struck answers w struck′ answers′ r = let s = run-same (r .2) (w .2) in (s .0, s .1)

@@ -1,6 +1,0 @@
-use mathlib.Core.Path.{refl}
-use Rattle.rights.proofs.Worked.{worked-stands, worked-numbers}
-use Rattle.rights.proofs.theorems.worked_sheet_stands.Needs as need
-
-pub returns : need.returns
-returns c = record { stands = worked-stands; numbers = worked-numbers; many = refl }
