@@ -23,14 +23,12 @@ use Rattle.rights.specs.Lists.{In}
 use Rattle.rights.specs.Pairs.{pair}
 use Rattle.rights.specs.Tables.{Tables, IsBase, IsView, Owns, Names, Beneath, Levelled}
 use Rattle.rights.specs.Within.{Path, here, step, Within}
-use Rattle.rights.proofs.Checks.{first-unique, first-decided, first-hit, first-miss, first-cases}
+use Rattle.rights.proofs.Checks.{first-unique, first-decided}
 use Rattle.rights.proofs.Deciding.{Each-in, some-test, each-test, passing, passing-in, passing-from, decides-some, decides-each, decides-always, either-way}
+use Rattle.rights.proofs.Grounds.{Says, answers-says, says-answers}
 use Rattle.rights.proofs.Holding.{holds-test, strong-plus-test, strong-minus-test, weak-at-test, decides-holds, decides-strong-plus, decides-strong-minus, decides-weak-at}
 use Rattle.rights.proofs.Tables.{Low, base-test, view-test, owns-test, beneath-test, names-of, decides-base, decides-view, decides-owns, decides-beneath, names-in, in-names, low-named, low-names-none, levels-of, some-same}
 use Rattle.rights.proofs.Within.{within-refl, within-step, within-back}
-
-yes-no : (g k : Ground) → Some (Answer.Yes g) ≡ Some (Answer.No k) → ⊥
-yes-no g k e = true≢false (cc)
 
 -- a path with the property at every subject but the last is a path along the pairs whose member has it
 module _ (pairs : List Pair) (P : ℕ → Type 0) (f : ℕ → Bool) (d : (s : ℕ) → Decides (f s) (P s)) where
@@ -105,16 +103,16 @@ module _ (pairs : List Pair) (tables : Tables) (entries : List Entry) where
   unfolding Denied StrongMinus Holds
   decides-denied n u p t low = decides-or (strong-minus-test pairs entries u p t) (some-test (λ e. denied-by-test n u p t (e .table)) entries) (decides-strong-minus pairs entries u p t)
       (decides-like (some-test (λ e. denied-by-test n u p t (e .table)) entries)
-        (λ h. (h .0 .table, h .2 .0, h .2 .1 .0, h .2 .1 .1))
-        (λ h. let m = h .3 in (m .0, m .1, subst At (sym (m .2 .0)) (h .1, (h .2, h .3))))
-        (decides-some (λ e. At (e .table)) (λ e. denied-by-test n u p t (e .table)) entries (λ e _. one (e .table))))
+      (λ h. (h .0 .table, h .2 .0, h .2 .1 .0, h .2 .1 .1))
+      (λ h. let m = h .3 in (m .0, m .1, subst At (sym (m .2 .0)) (h .1, (h .2, h .3))))
+      (decides-some (λ e. At (e .table)) (λ e. denied-by-test n u p t (e .table)) entries (λ e _. one (e .table))))
     where
       At : ℕ → Type 0
       At b = IsBase tables b × (Beneath tables b t × StrongMinus pairs entries u p b)
 
       one : (b : ℕ) → Decides (denied-by-test n u p t b) (At b)
       one b = decides-and (base-test tables b) (beneath-test tables n b t && strong-minus-test pairs entries u p b) (decides-base tables b)
-        (decides-and (beneath-test tables n b t) (strong-minus-test pairs entries u p b) (decides-beneath tables n b t low) (decides-strong-minus pairs entries u p b))
+          (decides-and (beneath-test tables n b t) (strong-minus-test pairs entries u p b) (decides-beneath tables n b t low) (decides-strong-minus pairs entries u p b))
 
   -- the rules give yes: strongly, or without a denial weakly or by the tables named
   abbrev Gives-yes : ℕ → Privilege → ℕ → Type 0
@@ -138,8 +136,8 @@ module _ (pairs : List Pair) (tables : Tables) (entries : List Entry) where
   pub decides-yes : (n u : ℕ) (p : Privilege) (t : ℕ) (b : Bool) → Low tables n t → Decides b (ByNames pairs tables entries u p t) → Decides (yes-test n u p t b) (Granted pairs tables entries u p t)
   decides-yes n u p t b low k = decides-like (yes-test n u p t b) (yes-granted u p t) granted-yes
       (decides-or (strong-plus-test pairs tables entries u p t) (not (denied-test n u p t) && (weakly-test u p t || b)) (decides-strong-plus pairs tables entries u p t)
-        (decides-and (not (denied-test n u p t)) (weakly-test u p t || b) (decides-not (denied-test n u p t) (decides-denied n u p t low))
-          (decides-or (weakly-test u p t) b (decides-weakly u p t) k)))
+      (decides-and (not (denied-test n u p t)) (weakly-test u p t || b) (decides-not (denied-test n u p t) (decides-denied n u p t low))
+      (decides-or (weakly-test u p t) b (decides-weakly u p t) k)))
 
   abbrev pub by-names-test : ℕ → ℕ → Privilege → ℕ → Bool
   by-names-test zero u p t = false
@@ -165,9 +163,9 @@ module _ (pairs : List Pair) (tables : Tables) (entries : List Entry) where
       (λ h. (h .0, h .1 .0, λ d i. h .1 .1 d (names-in tables t d i)))
       (λ h. (h .0, (h .1, λ d i. h .2 d (in-names tables t d i))))
       (decides-and (view-test tables t) (owns-test tables u t && each-test (λ d. yes-test n u p d (by-names-test n u p d)) (names-of (tables t))) (decides-view tables t)
-        (decides-and (owns-test tables u t) (each-test (λ d. yes-test n u p d (by-names-test n u p d)) (names-of (tables t))) (decides-owns tables u t)
-          (decides-each (Granted pairs tables entries u p) (λ d. yes-test n u p d (by-names-test n u p d)) (names-of (tables t))
-            (λ d i. let l = low-named tables n t d low (in-names tables t d i) in decides-yes n u p d (by-names-test n u p d) l (decides-by-names n u p d l)))))
+      (decides-and (owns-test tables u t) (each-test (λ d. yes-test n u p d (by-names-test n u p d)) (names-of (tables t))) (decides-owns tables u t)
+      (decides-each (Granted pairs tables entries u p) (λ d. yes-test n u p d (by-names-test n u p d)) (names-of (tables t))
+      (λ d i. let l = low-named tables n t d low (in-names tables t d i) in decides-yes n u p d (by-names-test n u p d) l (decides-by-names n u p d l)))))
 
   pub decides-granted : (n u : ℕ) (p : Privilege) (t : ℕ) → Low tables n t → Decides (granted-test n u p t) (Granted pairs tables entries u p t)
   decides-granted n u p t low = decides-yes n u p t (by-names-test n u p t) low (decides-by-names n u p t low)
@@ -189,10 +187,10 @@ module _ (pairs : List Pair) (tables : Tables) (entries : List Entry) where
   unfolding Answers rules
   answers n u p t low = subst (First (rules pairs tables entries u p t)) (settled (strong-plus-test pairs tables entries u p t) (denied-test n u p t) (weakly-test u p t) (by-names-test n u p t))
       (first-decided (rules pairs tables entries u p t) (strong-plus-test pairs tables entries u p t ∷ denied-test n u p t ∷ weakly-test u p t ∷ by-names-test n u p t ∷ true ∷ [])
-        (decides-strong-plus pairs tables entries u p t, (decides-denied n u p t low, (decides-weakly u p t, (decides-by-names n u p t low, (decides-always, tt))))))
+      (decides-strong-plus pairs tables entries u p t, (decides-denied n u p t low, (decides-weakly u p t, (decides-by-names n u p t low, (decides-always, tt))))))
     where
       settled : (b c d e : Bool) → cond b (Some (Answer.Yes Ground.Strong)) (cond c (Some (Answer.No Ground.Strong)) (cond d (Some (Answer.Yes Ground.Weak)) (cond e (Some (Answer.Yes Ground.Named)) (Some (Answer.No Ground.Nothing)))))
-        ≡ Some (cond b (Answer.Yes Ground.Strong) (cond c (Answer.No Ground.Strong) (cond d (Answer.Yes Ground.Weak) (cond e (Answer.Yes Ground.Named) (Answer.No Ground.Nothing)))))
+          ≡ Some (cond b (Answer.Yes Ground.Strong) (cond c (Answer.No Ground.Strong) (cond d (Answer.Yes Ground.Weak) (cond e (Answer.Yes Ground.Named) (Answer.No Ground.Nothing)))))
       settled true c d e = refl
       settled false true d e = refl
       settled false false true e = refl
@@ -205,7 +203,6 @@ module _ (pairs : List Pair) (tables : Tables) (entries : List Entry) where
 
   -- the rules give yes exactly where the answer is a yes, of some ground
   pub granted-answer : {u : ℕ} {p : Privilege} {t : ℕ} → Granted pairs tables entries u p t → (g : Ground) × Answers pairs tables entries u p t (Answer.Yes g)
-  unfolding Answers rules First
   granted-answer {u} {p} {t} h = by (granted-yes h) (either-way (strong-plus-test pairs tables entries u p t) (decides-strong-plus pairs tables entries u p t)) (either-way (weakly-test u p t) (decides-weakly u p t))
     where
       Plus : Type 0
@@ -214,17 +211,23 @@ module _ (pairs : List Pair) (tables : Tables) (entries : List Entry) where
       Weak : Type 0
       Weak = Weakly pairs tables entries u p t
 
+      yes : (g : Ground) → Says pairs tables entries u p t (Answer.Yes g) → (g : Ground) × Answers pairs tables entries u p t (Answer.Yes g)
+      yes g s = (g, says-answers pairs tables entries u p t (Answer.Yes g) s)
+
       by : Gives-yes u p t → Plus ⊎ (Plus → ⊥) → Weak ⊎ (Weak → ⊥) → (g : Ground) × Answers pairs tables entries u p t (Answer.Yes g)
-      by h (inl s) w = (Ground.Strong, inl (s, refl))
+      by h (inl s) w = yes Ground.Strong s
       by (inl s) (inr n) w = absurd (n s)
-      by (inr k) (inr n) (inl w) = (Ground.Weak, inr (n, inr (k .0, inl (w, refl))))
-      by (inr k) (inr n) (inr m) = (Ground.Named, inr (n, inr (k .0, inr (m, inl (⊎-elim (λ w. absurd (m w)) (λ b. b) (k .1), refl)))))
+      by (inr k) (inr n) (inl w) = yes Ground.Weak ((n, k .0), w)
+      by (inr k) (inr n) (inr m) = yes Ground.Named ((n, k .0), m, ⊎-elim (λ w. absurd (m w)) (λ b. b) (k .1))
 
   pub answer-granted : (u : ℕ) (p : Privilege) (t : ℕ) (g : Ground) → Answers pairs tables entries u p t (Answer.Yes g) → Granted pairs tables entries u p t
-  unfolding Answers rules First ByNames
-  answer-granted u p t g h = ⊎-elim (λ s. strongly (s .0)) (λ a. ⊎-elim (λ d. absurd (yes-no g Ground.Strong (d .1)))
-      (λ b. ⊎-elim (λ w. weakly (b .0) (w .0)) (λ c. ⊎-elim (λ n. by-names (b .0) (n .0 .0) (n .0 .1) (n .0 .2))
-        (λ l. ⊎-elim (λ k. absurd (yes-no g Ground.Nothing (k .1))) (λ k. absurd (k .0 tt)) (l .1)) (c .1)) (b .1)) (a .1)) h
+  answer-granted u p t g h = by g (answers-says pairs tables entries u p t (Answer.Yes g) h)
+    where
+      by : (g : Ground) → Says pairs tables entries u p t (Answer.Yes g) → Granted pairs tables entries u p t
+      by Ground.Nothing s = absurd s
+      by Ground.Strong s = yes-granted u p t (inl s)
+      by Ground.Weak s = yes-granted u p t (inr (s .0 .1, inl (s .1)))
+      by Ground.Named s = yes-granted u p t (inr (s .0 .1, inr (s .2)))
 
   pub granted-or-not : Levelled tables → (u : ℕ) (p : Privilege) (t : ℕ) → Granted pairs tables entries u p t ⊎ (Granted pairs tables entries u p t → ⊥)
   granted-or-not levels u p t = let l = levels-of tables levels t in either-way (granted-test (l .0) u p t) (decides-granted (l .0) u p t (l .1))

@@ -74,6 +74,6 @@ module _ {F : Type 0} where
   first-alike [] (d ∷ ds) r a h = absurd a
   first-alike (c ∷ cs) [] r a h = absurd a
   first-alike (c ∷ cs) (d ∷ ds) r a h = ⊎-elim
-    (λ k. subst (First (d ∷ ds)) (sym (k .1 ∙ ap Some (a .0))) (first-hit d ds (a .1 (k .0))))
-    (λ k. first-miss d ds r (λ p. k .0 (a .2 p)) (first-alike cs ds r (a .3) (k .1)))
-    (first-cases c cs r h)
+      (λ k. subst (First (d ∷ ds)) (sym (k .1 ∙ ap Some (a .0))) (first-hit d ds (a .1 (k .0))))
+      (λ k. first-miss d ds r (λ p. k .0 (a .2 p)) (first-alike cs ds r (a .3) (k .1)))
+      (first-cases c cs r h)

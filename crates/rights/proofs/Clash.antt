@@ -1,5 +1,5 @@
 -- The laws of clash: it is the first and the second rule applying together where minuses stand on base tables only,
--- it grows with the pairs and the entries, and a test decides it.
+-- it grows with the pairs, the tables and the entries, and a test decides it.
 use mathlib.Core.Path.{_≡_, refl, sym, ap, subst, _∙_}
 use mathlib.Core.Bool.{Bool, true, false, true≢false, _&&_, _||_}
 use mathlib.Core.Logic.{_⊎_, inl, inr, ⊎-elim}
@@ -19,22 +19,35 @@ use Rattle.rights.specs.Clash.{Clash, Clashing}
 use Rattle.rights.specs.Holding.{Gives, Holds, StrongPlus, StrongMinus, MinusOnBases}
 use Rattle.rights.specs.Lists.{In}
 use Rattle.rights.specs.Pairs.{pair}
-use Rattle.rights.specs.Tables.{Tables, IsBase, Beneath, AtOrBeneath, Levelled}
+use Rattle.rights.specs.Tables.{Tables, IsBase, Beneath, AtOrBeneath, Levelled, Extends}
 use Rattle.rights.specs.Within.{Within, Below}
 use Rattle.rights.proofs.Deciding.{Among, Some-in, some-test, decides-some, either-way}
 use Rattle.rights.proofs.Holding.{same-right, decides-same-right, within-test, decides-within, strong-plus-test, decides-strong-plus, strong-plus-grows, strong-minus-grows}
-use Rattle.rights.proofs.Tables.{Low, beneath-base, beneath-test, decides-beneath, levels-of}
+use Rattle.rights.proofs.Tables.{Low, beneath-base, beneath-extends, beneath-test, decides-beneath, levels-of}
 use Rattle.rights.proofs.Within.{within-cases}
 
--- more pairs and more entries, no fewer clashes
-pub clash-grows : (ps qs : List Pair) → Among ps qs → (tables : Tables) (es fs : List Entry) → Among es fs → (s : ℕ) → Clash ps tables es s → Clash qs tables fs s
-unfolding Clash
-clash-grows ps qs pairs-in tables es fs entries-in s c =
-    (c .0, c .1, c .2, strong-plus-grows ps qs pairs-in es fs entries-in tables s (c .0) (c .1) (c .3), c .4, strong-minus-grows ps qs pairs-in es fs entries-in s (c .0) (c .2) (c .5))
+-- more pairs, tables and entries: no less is denied, and there are no fewer clashes
+module _ (ps qs : List Pair) (pairs-in : Among ps qs) (tables more : Tables) (keeps : Extends tables more) (es fs : List Entry) (entries-in : Among es fs) where
+  pub denied-grows : (u : ℕ) (p : Privilege) (t : ℕ) → Denied ps tables es u p t → Denied qs more fs u p t
+  unfolding Denied
+  denied-grows u p t (inl m) = inl (strong-minus-grows ps qs pairs-in es fs entries-in u p t m)
+  denied-grows u p t (inr h) = let base = h .1 in
+      inr (h .0, (base .0, keeps (h .0) (base .0) (base .1), base .2), beneath-extends tables more keeps (h .2), strong-minus-grows ps qs pairs-in es fs entries-in u p (h .0) (h .3))
 
-pub clashing-grows : (ps qs : List Pair) → Among ps qs → (tables : Tables) (es fs : List Entry) → Among es fs → Clashing ps tables es → Clashing qs tables fs
-unfolding Clashing
-clashing-grows ps qs pairs-in tables es fs entries-in c = (c .0, clash-grows ps qs pairs-in tables es fs entries-in (c .0) (c .1))
+  pub clash-grows : (s : ℕ) → Clash ps tables es s → Clash qs more fs s
+  unfolding Clash
+  clash-grows s c = (
+    c .0,
+    c .1,
+    c .2,
+    strong-plus-grows ps qs pairs-in es fs entries-in tables more keeps s (c .0) (c .1) (c .3),
+    ⊎-elim (λ e. inl e) (λ q. inr (beneath-extends tables more keeps q)) (c .4),
+    strong-minus-grows ps qs pairs-in es fs entries-in s (c .0) (c .2) (c .5),
+  )
+
+  pub clashing-grows : Clashing ps tables es → Clashing qs more fs
+  unfolding Clashing
+  clashing-grows c = (c .0, clash-grows (c .0) (c .1))
 
 in-left : {X : Type 0} (x : X) (xs ys : List X) → In x xs → In x (xs ++ ys)
 in-left x [] ys i = absurd i
@@ -97,8 +110,8 @@ module _ (pairs : List Pair) (tables : Tables) (entries : List Entry) where
   clash-candidate s c =
       let m = c .5 in
       ⊎-elim (λ e. in-left s (map (λ (e : Entry). e .subject) entries) (map (λ (a : Pair). a .member) pairs) (subst (λ x. In x (map (λ (e : Entry). e .subject) entries)) (sym e) (in-map (λ (e : Entry). e .subject) (m .0) entries (m .1))))
-        (λ b. in-right s (map (λ (e : Entry). e .subject) entries) (map (λ (a : Pair). a .member) pairs) (in-map (λ (a : Pair). a .member) (pair s (b .0)) pairs (b .1)))
-        (within-cases pairs s (m .0 .subject) (m .3))
+      (λ b. in-right s (map (λ (e : Entry). e .subject) entries) (map (λ (a : Pair). a .member) pairs) (in-map (λ (a : Pair). a .member) (pair s (b .0)) pairs (b .1)))
+      (within-cases pairs s (m .0 .subject) (m .3))
 
   -- e's table has a strong plus of s over f, a strong minus for p
   abbrev Over : ℕ → Privilege → Entry → Entry → Type 0
@@ -158,19 +171,19 @@ module _ (pairs : List Pair) (tables : Tables) (entries : List Entry) where
     module _ (low : (t : ℕ) → Low tables (height t) t) where
       decides-over : (s : ℕ) (p : Privilege) (f e : Entry) → Decides (over-test s p f e) (Over s p f e)
       decides-over s p f e = decides-and (eqb (f .table) (e .table) || beneath-test tables (height (e .table)) (f .table) (e .table)) (strong-plus-test pairs tables entries s p (e .table))
-        (decides-or (eqb (f .table) (e .table)) (beneath-test tables (height (e .table)) (f .table) (e .table)) (decides-eqb (f .table) (e .table)) (decides-beneath tables (height (e .table)) (f .table) (e .table) (low (e .table))))
-        (decides-strong-plus pairs tables entries s p (e .table))
+          (decides-or (eqb (f .table) (e .table)) (beneath-test tables (height (e .table)) (f .table) (e .table)) (decides-eqb (f .table) (e .table)) (decides-beneath tables (height (e .table)) (f .table) (e .table) (low (e .table))))
+          (decides-strong-plus pairs tables entries s p (e .table))
 
       decides-under : (p : Privilege) (f : Entry) (s : ℕ) → Decides (under-test p f s) (Under p f s)
       decides-under p f s = decides-and (within-test pairs s (f .subject)) (some-test (over-test s p f) entries) (decides-within pairs s (f .subject)) (decides-some (Over s p f) (over-test s p f) entries (λ e _. decides-over s p f e))
 
       decides-meets : (subjects : List ℕ) (f : Entry) (p : Privilege) → Decides (meets-test subjects f p) (Meets subjects f p)
       decides-meets subjects f p = decides-and (same-right (f .right) (Right.Access p Sign.Minus Strength.Strong)) (some-test (under-test p f) subjects)
-        (decides-same-right (f .right) (Right.Access p Sign.Minus Strength.Strong)) (decides-some (Under p f) (under-test p f) subjects (λ s _. decides-under p f s))
+          (decides-same-right (f .right) (Right.Access p Sign.Minus Strength.Strong)) (decides-some (Under p f) (under-test p f) subjects (λ s _. decides-under p f s))
 
       pub decides-clash : (subjects : List ℕ) → Decides (clash-test subjects) (Some-in (Clash pairs tables entries) subjects)
       decides-clash subjects = decides-like (clash-test subjects) (met-clash subjects) (clash-met subjects)
-        (decides-some (λ f. Some-in (Meets subjects f) privileges) (λ f. some-test (meets-test subjects f) privileges) entries
+          (decides-some (λ f. Some-in (Meets subjects f) privileges) (λ f. some-test (meets-test subjects f) privileges) entries
           (λ f _. decides-some (Meets subjects f) (meets-test subjects f) privileges (λ p _. decides-meets subjects f p)))
 
       pub decides-clashing : Decides (clash-test candidates) (Clashing pairs tables entries)

@@ -7,7 +7,7 @@ use Prim.Native.Nat.{ℕ}
 use native.Mathlib.Omega.{arith}
 use Rattle.std.proofs.shelf.Ways.{not-from-decides}
 use Rattle.rights.specs.declared.entries.Entry.{Entry}
-use Rattle.rights.specs.Contrasts.{Example, commands-of, struck-of, answers-of, Shows, delegates, every-named, one-entry, two-beneath, one-way, same-subject, EachOther, Itself, owned-five}
+use Rattle.rights.specs.Contrasts.{Example, commands-of, struck-of, answers-of, Shows, delegates, every-named, one-entry, EachOther, Itself, owned-five}
 use Rattle.rights.specs.Cover.{Supported}
 use Rattle.rights.specs.Read.{admin-entry}
 use Rattle.rights.specs.Tables.{no-tables, over-none}
@@ -30,18 +30,6 @@ shows-every-named = shown every-named refl refl
 pub shows-one-entry : Shows one-entry
 unfolding computed
 shows-one-entry = shown one-entry refl refl
-
-pub shows-two-beneath : Shows two-beneath
-unfolding computed
-shows-two-beneath = shown two-beneath refl refl
-
-pub shows-one-way : Shows one-way
-unfolding computed
-shows-one-way = shown one-way refl refl
-
-pub shows-same-subject : Shows same-subject
-unfolding computed
-shows-same-subject = shown same-subject refl refl
 
 five-low : (t : ℕ) → Low owned-five 0 t
 five-low = low-made no-tables 5 (record { owner = 1; names = [] }) 0 0 (low-none 0) refl over-none (omega arith)

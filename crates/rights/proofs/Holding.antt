@@ -6,6 +6,7 @@ use mathlib.Core.List.{List, [], _∷_}
 use Prim.Native.Nat.{ℕ}
 use lib.Dec.{eqb}
 use Rattle.std.specs.Orderings.{Decides}
+use Rattle.std.specs.declared.option.Option.the-variants.{Some}
 use Rattle.std.proofs.shelf.Ways.{decides-eqb, decides-and, decides-or, decides-like}
 use Rattle.rights.specs.declared.entries.Entry.{Entry}
 use Rattle.rights.specs.declared.entries.Pair.{Pair}
@@ -18,7 +19,7 @@ use Rattle.rights.specs.Bits.{bit}
 use Rattle.rights.specs.Entries.{same-entry}
 use Rattle.rights.specs.Holding.{Gives, Holds, StrongPlus, StrongMinus}
 use Rattle.rights.specs.Lists.{In}
-use Rattle.rights.specs.Tables.{Tables, IsBase, Owns}
+use Rattle.rights.specs.Tables.{Table, Tables, IsBase, Owns, Extends}
 use Rattle.rights.specs.Within.{Within}
 use Rattle.rights.proofs.Bits.{bit-injective}
 use Rattle.rights.proofs.Deciding.{Among, some-test, decides-some, decides-in}
@@ -32,10 +33,13 @@ module _ (ps qs : List Pair) (pairs-in : Among ps qs) (es fs : List Entry) (entr
   unfolding Holds
   holds-grows s p sign t r h = (h .0, entries-in (h .0) (h .1), h .2, within-grows ps qs pairs-in s (h .0 .subject) (h .3))
 
-  pub strong-plus-grows : (tables : Tables) (s : ℕ) (p : Privilege) (t : ℕ) → StrongPlus ps tables es s p t → StrongPlus qs tables fs s p t
+  pub strong-plus-grows : (tables more : Tables) → Extends tables more → (s : ℕ) (p : Privilege) (t : ℕ) → StrongPlus ps tables es s p t → StrongPlus qs more fs s p t
   unfolding StrongPlus
-  strong-plus-grows tables s p t (inl h) = inl (holds-grows s p Sign.Plus t Strength.Strong h)
-  strong-plus-grows tables s p t (inr o) = inr o
+  strong-plus-grows tables more keeps s p t (inl h) = inl (holds-grows s p Sign.Plus t Strength.Strong h)
+  strong-plus-grows tables more keeps s p t (inr o) = inr (table-grows (λ r. r .names ≡ []) (o .0), table-grows (λ r. r .owner ≡ s) (o .1))
+    where
+      table-grows : (P : Table → Type 0) → (r : Table) × (tables t ≡ Some r) × P r → (r : Table) × (more t ≡ Some r) × P r
+      table-grows P h = (h .0, keeps t (h .0) (h .1), h .2)
 
   pub strong-minus-grows : (s : ℕ) (p : Privilege) (t : ℕ) → StrongMinus ps es s p t → StrongMinus qs fs s p t
   unfolding StrongMinus
@@ -73,7 +77,7 @@ pub decides-within : (ps : List Pair) (s g : ℕ) → Decides (within-test ps s 
 decides-within [] s g = decides-like (eqb s g) (within-same [] s g) (within-none s g) (decides-eqb s g)
 decides-within (a ∷ ps) s g = decides-like (within-test (a ∷ ps) s g) (within-through ps (a .member) (a .group) s g) (within-more ps (a .member) (a .group) s g)
     (decides-or (within-test ps s g) (within-test ps s (a .member) && within-test ps (a .group) g) (decides-within ps s g)
-      (decides-and (within-test ps s (a .member)) (within-test ps (a .group) g) (decides-within ps s (a .member)) (decides-within ps (a .group) g)))
+    (decides-and (within-test ps s (a .member)) (within-test ps (a .group) g) (decides-within ps s (a .member)) (decides-within ps (a .group) g)))
 
 abbrev pub gives-test : Entry → Privilege → Sign → ℕ → Strength → Bool
 gives-test e p sign t r = let same = same-right (e .right) (Right.Access p sign r) in eqb (e .table) t && same
@@ -89,7 +93,7 @@ pub decides-entry : (P : ℕ → Type 0) (f : ℕ → Bool) → ((s : ℕ) → D
     Decides (entry-test f entries p sign t r) ((e : Entry) × In e entries × Gives e p sign t r × P (e .subject))
 decides-entry P f d entries p sign t r = decides-like (entry-test f entries p sign t r) (λ h. (h .0, h .1, h .2 .0, h .2 .1)) (λ h. (h .0, h .1, (h .2, h .3)))
     (decides-some (λ e. Gives e p sign t r × P (e .subject)) (λ e. gives-test e p sign t r && f (e .subject)) entries
-      (λ e _. decides-and (gives-test e p sign t r) (f (e .subject)) (decides-gives e p sign t r) (d (e .subject))))
+    (λ e _. decides-and (gives-test e p sign t r) (f (e .subject)) (decides-gives e p sign t r) (d (e .subject))))
 
 module _ (pairs : List Pair) (entries : List Entry) where
   abbrev pub holds-test : ℕ → Privilege → Sign → ℕ → Strength → Bool

@@ -13,13 +13,13 @@ use Rattle.std.specs.declared.option.Option.the-variants.{Some, None}
 use Rattle.std.proofs.shelf.Tests.{eqb-true, eqb-false, eq-eqb, cond-true, cond-false}
 use Rattle.std.proofs.shelf.Ways.{decides-eqb, decides-or, decides-not, decides-like}
 use Rattle.rights.specs.Lists.{In}
-use Rattle.rights.specs.Tables.{Table, Tables, no-tables, made, Stands, IsBase, IsView, Owns, Names, Beneath, named, deeper, Level, level, LevelOver, over-none, over-more, Levelled}
+use Rattle.rights.specs.Tables.{Table, Tables, no-tables, made, Stands, IsBase, IsView, Owns, Names, Beneath, named, deeper, Level, level, LevelOver, over-none, over-more, Levelled, Extends}
 use Rattle.rights.proofs.Deciding.{some-test, decides-some, decides-in, either-way}
 
 pub some-same : {X : Type 0} (x y : X) → Some x ≡ Some y → x ≡ y
 some-same x y e = cc
 
-none-some : {X : Type 0} (x : X) → None ≡ Some x → ⊥
+pub none-some : {X : Type 0} (x : X) → None ≡ Some x → ⊥
 none-some x e = true≢false (cc)
 
 module _ (tables : Tables) where
@@ -38,8 +38,8 @@ module _ (tables : Tables) where
   -- nothing is beneath a base table
   pub beneath-base : (b t : ℕ) → IsBase tables t → Beneath tables b t → ⊥
   beneath-base b t base q = let n = beneath-names q .1 in
-    let same : n .0 ≡ base .0 = some-same (n .0) (base .0) (sym (n .1) ∙ base .1) in
-    subst (In (beneath-names q .0)) (ap (λ r. r .names) same ∙ base .2) (n .2)
+      let same : n .0 ≡ base .0 = some-same (n .0) (base .0) (sym (n .1) ∙ base .1) in
+      subst (In (beneath-names q .0)) (ap (λ r. r .names) same ∙ base .2) (n .2)
 
   mutual
     pub level-unique : {t n m : ℕ} → Level tables t n → Level tables t m → n ≡ m
@@ -161,7 +161,7 @@ module _ (tables : Tables) where
   decides-beneath zero b t low = (λ e. absurd (true≢false (sym e)), λ q. let n = beneath-names tables q in absurd (low-names-none t (n .0) low (n .1)))
   decides-beneath (suc n) b t low = decides-like (beneath-test (suc n) b t) found sought
       (decides-some (λ d. (b ≡ d) ⊎ Beneath tables b d) (λ d. eqb b d || beneath-test n b d) (names-of (tables t))
-        (λ d i. decides-or (eqb b d) (beneath-test n b d) (decides-eqb b d) (decides-beneath n b d (low-named n t d low (in-names t d i)))))
+      (λ d i. decides-or (eqb b d) (beneath-test n b d) (decides-eqb b d) (decides-beneath n b d (low-named n t d low (in-names t d i)))))
     where
       found : (d : ℕ) × In d (names-of (tables t)) × ((b ≡ d) ⊎ Beneath tables b d) → Beneath tables b t
       found h = ⊎-elim (λ e. named (in-names t b (subst (λ x. In x (names-of (tables t))) (sym e) (h .1)))) (λ q. deeper (in-names t (h .0) (h .1)) q) (h .2)
@@ -181,11 +181,11 @@ module _ (tables : Tables) where
   pub beneath-or-not : Levelled tables → (b t : ℕ) → Beneath tables b t ⊎ (Beneath tables b t → ⊥)
   beneath-or-not levels b t = let l = levels-of levels t in either-way (beneath-test (l .0) b t) (decides-beneath (l .0) b t (l .1))
 
--- whatever stands in the one stands in the other
-abbrev pub Extends : Tables → Tables → Type 0
-Extends tables more = (t : ℕ) (r : Table) → tables t ≡ Some r → more t ≡ Some r
-
 module _ (tables more : Tables) (keeps : Extends tables more) where
+  pub beneath-extends : {b t : ℕ} → Beneath tables b t → Beneath more b t
+  beneath-extends (named {v = v} n) = named (n .0, keeps v (n .0) (n .1), n .2)
+  beneath-extends (deeper {v = v} n q) = deeper (n .0, keeps v (n .0) (n .1), n .2) (beneath-extends q)
+
   mutual
     pub level-extends : {t n : ℕ} → Level tables t n → Level more t n
     level-extends (level {t = t} {r = r} e o) = level (keeps t r e) (over-extends o)

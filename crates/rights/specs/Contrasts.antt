@@ -1,4 +1,4 @@
--- Short examples that tell the rules from what they could be mistaken for. Each is a run from the empty history,
+-- Short examples that tell the rules of cover and chains from what they could be mistaken for. Each is a run from the empty history,
 -- or a fact of chains, that comes out otherwise under the mistaken rule.
 use mathlib.Core.Path.{_≡_}
 use mathlib.Core.List.{List, [], _∷_, _++_}
@@ -6,17 +6,16 @@ use lib.Dec.{lit≤}
 use lib.ListN.{length, replicate}
 use Rattle.rights.specs.declared.commands.Answer.{Answer}
 use Rattle.rights.specs.declared.commands.Command.{Command}
-use Rattle.rights.specs.declared.commands.Ground.{Ground}
 use Rattle.rights.specs.declared.entries.Entry.{Entry}
 use Rattle.rights.specs.Chain.{HasChain}
 use Rattle.rights.specs.Lists.{In}
 use Rattle.rights.specs.Read.{admin-entry}
 use Rattle.rights.specs.Tables.{Tables, no-tables, made}
-use Rattle.rights.specs.Worked.{naming, mandate-lacking, Leads}
+use Rattle.rights.specs.Worked.{mandate-lacking, Leads}
 
--- persons 1, 2 and 3, of whom 1 and 2 may make tables, and groups 10, 11 and 12
+-- persons 1, 2 and 3, of whom 1 and 2 may make tables
 abbrev pub opened : List Command
-opened = Command.User 1 1 ∷ Command.User 2 1 ∷ Command.User 3 0 ∷ Command.Group 10 ∷ Command.Group 11 ∷ Command.Group 12 ∷ Command.Open ∷ []
+opened = Command.User 1 1 ∷ Command.User 2 1 ∷ Command.User 3 0 ∷ Command.Open ∷ []
 
 -- commands that are all accepted, then some with these answers, which strike these entries
 pub record Example : Type 0 where
@@ -76,34 +75,4 @@ one-entry =
       then = Command.Lend 2 3 0 5 0 1 ∷ Command.Lend 2 3 0 5 0 0 ∷ Command.Give 2 3 0 0 5 1 ∷ [];
       struck = [] ∷ [] ∷ [] ∷ [];
       answers = Answer.Refused mandate-lacking ∷ Answer.Done ∷ Answer.Done ∷ [];
-    }
-
--- a strong minus two levels beneath a view denies it
-abbrev pub two-beneath : Example
-two-beneath =
-    record {
-      first = Command.Base 1 5 ∷ Command.View 1 6 (naming 5) ∷ Command.View 1 7 (naming 6) ∷ Command.Give 1 2 0 1 5 1 ∷ [];
-      then = Command.May 2 0 7 ∷ [];
-      struck = [] ∷ [];
-      answers = Answer.No Ground.Strong ∷ [];
-    }
-
--- a weak minus that one way leads to applies, though a weak plus stands in another way to it
-abbrev pub one-way : Example
-one-way =
-    record {
-      first = Command.Admit 0 3 10 ∷ Command.Admit 0 3 11 ∷ Command.Admit 0 10 12 ∷ Command.Admit 0 11 12 ∷ Command.Base 1 5 ∷ Command.Give 1 10 0 0 5 0 ∷ Command.Give 1 12 0 1 5 0 ∷ [];
-      then = Command.May 3 0 5 ∷ [];
-      struck = [] ∷ [];
-      answers = Answer.No Ground.Nothing ∷ [];
-    }
-
--- a weak plus does not stop a weak minus of the same subject
-abbrev pub same-subject : Example
-same-subject =
-    record {
-      first = Command.Admit 0 3 10 ∷ Command.Admit 0 3 11 ∷ Command.Base 1 5 ∷ Command.Give 1 10 0 0 5 0 ∷ Command.Give 1 11 0 0 5 0 ∷ Command.Give 1 11 0 1 5 0 ∷ [];
-      then = Command.May 3 0 5 ∷ [];
-      struck = [] ∷ [];
-      answers = Answer.No Ground.Nothing ∷ [];
     }

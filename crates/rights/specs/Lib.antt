@@ -9,12 +9,15 @@ pub mod Entries
 pub mod Faults
 pub mod History
 pub mod Holding
+pub mod Laws
 pub mod Lists
+pub mod Mandates
 pub mod Numbers
 pub mod Pairs
 pub mod Read
 pub mod Refusals
 pub mod Runs
+pub mod Scenes
 pub mod Subjects
 pub mod Tables
 pub mod Within

@@ -1,8 +1,56 @@
-// Theorems about the rules, each on the contract of a function: the worked example, and contrasts.
+// Theorems about the rules: what each function is for stands in its contract alone.
 ghost use mathlib.Core.Path.{_≡_};
 ghost use lib.ListN.{length};
-ghost use Rattle.rights.specs.Contrasts.{Shows, delegates, EachOther, Itself, every-named, one-entry, two-beneath, one-way, same-subject};
+ghost use Rattle.rights.specs.Contrasts.{Shows, delegates, EachOther, Itself, every-named, one-entry};
+ghost use Rattle.rights.specs.Laws.{AccessLaws};
+ghost use Rattle.rights.specs.Mandates.{MandateLaws, RunLaws};
+ghost use Rattle.rights.specs.Scenes.{Examples-answered};
 ghost use Rattle.rights.specs.Worked.{Worked, WorkedNumbers, worked-commands as commands};
+
+// Every question has exactly one answer, which reads only the tables and entries at the table asked
+// about and beneath it; and the laws of clashes and levels.
+pub fn access_laws() -> u8
+    ensures { λ _. ⌜ AccessLaws ⌝ }
+{
+    0
+}
+
+// In each of the small states where a wrong reading of the rules misleads, the answer is the right one.
+pub fn access_examples() -> u8
+    ensures { λ _. ⌜ Examples-answered ⌝ }
+{
+    0
+}
+
+// The laws of cover, chains and runs, and short examples that come out otherwise under rules that
+// could be mistaken for these: delegates who lent to each other, entries that support each other or
+// themselves, a view of which one table is covered, kind and rank from two entries.
+fn mandates()
+    ensures laws { λ _. ⌜ MandateLaws ⌝ }
+    ensures runs { λ _. ⌜ RunLaws ⌝ }
+    ensures delegates { λ _. ⌜ Shows delegates ⌝ }
+    ensures circle { λ _. ⌜ EachOther ⌝ }
+    ensures alone { λ _. ⌜ Itself ⌝ }
+    ensures covered { λ _. ⌜ Shows every-named ⌝ }
+    ensures ranked { λ _. ⌜ Shows one-entry ⌝ }
+{}
+
+// The same; the result is how many examples they are.
+pub fn mandate_laws() -> u8
+    ensures laws { λ _. ⌜ MandateLaws ⌝ }
+    ensures runs { λ _. ⌜ RunLaws ⌝ }
+    ensures delegates { λ _. ⌜ Shows delegates ⌝ }
+    ensures circle { λ _. ⌜ EachOther ⌝ }
+    ensures alone { λ _. ⌜ Itself ⌝ }
+    ensures covered { λ _. ⌜ Shows every-named ⌝ }
+    ensures ranked { λ _. ⌜ Shows one-entry ⌝ }
+    ensures many { λ r. ⌜ r ≡ 5 ⌝ }
+{
+    mandates();
+    let runs: u8 = 3;
+    let facts: u8 = 2;
+    runs + facts
+}
 
 // The commands of the worked example have the answers that are written down, and no others.
 fn worked()
@@ -18,37 +66,4 @@ pub fn worked_sheet_stands() -> u8
 {
     worked();
     30
-}
-
-// Short examples that come out otherwise under rules that could be mistaken for these: delegates
-// who lent to each other, entries that support each other or themselves, a view of which one table
-// is covered, kind and rank from two entries, a strong minus two levels beneath a view, a weak
-// minus that only one way leads to, both signs at one subject.
-fn contrasts()
-    ensures delegates { λ _. ⌜ Shows delegates ⌝ }
-    ensures circle { λ _. ⌜ EachOther ⌝ }
-    ensures alone { λ _. ⌜ Itself ⌝ }
-    ensures covered { λ _. ⌜ Shows every-named ⌝ }
-    ensures ranked { λ _. ⌜ Shows one-entry ⌝ }
-    ensures beneath { λ _. ⌜ Shows two-beneath ⌝ }
-    ensures reached { λ _. ⌜ Shows one-way ⌝ }
-    ensures signs { λ _. ⌜ Shows same-subject ⌝ }
-{}
-
-// The same; the result is how many they are.
-pub fn contrasts_stand() -> u8
-    ensures delegates { λ _. ⌜ Shows delegates ⌝ }
-    ensures circle { λ _. ⌜ EachOther ⌝ }
-    ensures alone { λ _. ⌜ Itself ⌝ }
-    ensures covered { λ _. ⌜ Shows every-named ⌝ }
-    ensures ranked { λ _. ⌜ Shows one-entry ⌝ }
-    ensures beneath { λ _. ⌜ Shows two-beneath ⌝ }
-    ensures reached { λ _. ⌜ Shows one-way ⌝ }
-    ensures signs { λ _. ⌜ Shows same-subject ⌝ }
-    ensures many { λ r. ⌜ r ≡ 8 ⌝ }
-{
-    contrasts();
-    let runs: u8 = 6;
-    let facts: u8 = 2;
-    runs + facts
 }
