@@ -23,6 +23,7 @@ use Rattle.rights.specs.Tables.{Tables, IsBase, AtOrBeneath, Levelled, Extends
 use Rattle.rights.specs.Within.{Within, Below}
 use Rattle.rights.proofs.Deciding.{Among, Some-in, some-test, decides-some, either-way}
 use Rattle.rights.proofs.Holding.{same-right, decides-same-right, within-test, decides-within, strong-plus-test, decides-strong-plus, strong-plus-grows, strong-minus-grows}
+use Rattle.rights.proofs.Parts.{in-left, in-right}
 use Rattle.rights.proofs.Tables.{Low, beneath-base, beneath-extends, beneath-test, decides-beneath, levels-of}
 use Rattle.rights.proofs.Within.{within-cases}
 
@@ -48,15 +49,6 @@ module _ (ps qs : List Pair) (pairs-in : Among ps qs) (tables more : Tables) (ke
   pub clashing-grows : Clashing ps tables es → Clashing qs more fs
   unfolding Clashing
   clashing-grows c = (c .0, clash-grows (c .0) (c .1))
-
-in-left : {X : Type 0} (x : X) (xs ys : List X) → In x xs → In x (xs ++ ys)
-in-left x [] ys i = absurd i
-in-left x (y ∷ xs) ys (inl e) = inl e
-in-left x (y ∷ xs) ys (inr i) = inr (in-left x xs ys i)
-
-in-right : {X : Type 0} (x : X) (xs ys : List X) → In x ys → In x (xs ++ ys)
-in-right x [] ys i = i
-in-right x (y ∷ xs) ys i = inr (in-right x xs ys i)
 
 in-map : {X Y : Type 0} (f : X → Y) (x : X) (xs : List X) → In x xs → In (f x) (map f xs)
 in-map f x [] i = absurd i

@@ -2,8 +2,8 @@
 mod commands;
 mod entries;
 mod faults;
-mod laws;
 mod records;
+mod theorems;
 mod vocabulary;
 
 pub use commands::Answer;
@@ -17,8 +17,10 @@ pub use faults::BookFault;
 pub use faults::RegisterFault;
 pub use faults::RollFault;
 pub use faults::SheetFault;
-pub use laws::access_laws_stand;
 pub use records::Subject;
+pub use theorems::access_laws;
+pub use theorems::mandate_laws;
+pub use theorems::worked_sheet_stands;
 pub use vocabulary::Kind;
 pub use vocabulary::Privilege;
 pub use vocabulary::Rank;
