@@ -1,13 +1,12 @@
 -- The laws of access: weak entries reach along the pairs that are not blocked, tests decide each rule,
 -- every question has exactly one answer, and the rules give yes exactly where that answer is a yes.
-use mathlib.Core.Path.{_≡_, refl, sym, ap, subst, _∙_}
+use mathlib.Core.Path.{_≡_, refl, sym, subst}
 use mathlib.Core.Bool.{Bool, true, false, true≢false, not, cond, _&&_, _||_}
 use mathlib.Core.Logic.{_⊎_, inl, inr, ⊎-elim}
 use mathlib.Core.List.{List, [], _∷_}
 use Prim.Native.Nat.{ℕ, zero, suc}
 use Rattle.std.specs.Orderings.{Decides}
-use Rattle.std.specs.declared.option.Option.{Option}
-use Rattle.std.specs.declared.option.Option.the-variants.{Some, None}
+use Rattle.std.specs.declared.option.Option.the-variants.{Some}
 use Rattle.std.proofs.shelf.Ways.{decides-and, decides-or, decides-not, decides-like}
 use Rattle.rights.specs.declared.commands.Answer.{Answer}
 use Rattle.rights.specs.declared.commands.Ground.{Ground}
@@ -17,20 +16,18 @@ use Rattle.rights.specs.declared.vocabulary.Privilege.{Privilege}
 use Rattle.rights.specs.declared.vocabulary.Sign.{Sign}
 use Rattle.rights.specs.declared.vocabulary.Strength.{Strength}
 use Rattle.rights.specs.Access.{ButLast, other, WeakAt, Applies, Denied, Weakly, Granted, strongly, weakly, by-names, ByNames, rules, Answers}
-use Rattle.rights.specs.Checks.{Check, First}
-use Rattle.rights.specs.Holding.{Gives, Holds, StrongPlus, StrongMinus}
+use Rattle.rights.specs.Checks.{First}
+use Rattle.rights.specs.Holding.{Holds, StrongPlus, StrongMinus}
 use Rattle.rights.specs.Lists.{In}
 use Rattle.rights.specs.Pairs.{pair}
-use Rattle.rights.specs.Tables.{Tables, IsBase, IsView, Owns, Names, Beneath, Levelled}
+use Rattle.rights.specs.Tables.{Tables, IsBase, IsView, Names, Beneath, Levelled}
 use Rattle.rights.specs.Within.{Path, here, step, Within}
-use Rattle.rights.proofs.Checks.{first-unique, first-decided, first-hit, first-miss, first-cases}
-use Rattle.rights.proofs.Deciding.{Each-in, some-test, each-test, passing, passing-in, passing-from, decides-some, decides-each, decides-always, either-way}
+use Rattle.rights.proofs.Checks.{first-unique, first-decided}
+use Rattle.rights.proofs.Deciding.{some-test, each-test, passing, passing-in, passing-from, decides-some, decides-each, decides-always, either-way}
+use Rattle.rights.proofs.Grounds.{Says, answers-says, says-answers}
 use Rattle.rights.proofs.Holding.{holds-test, strong-plus-test, strong-minus-test, weak-at-test, decides-holds, decides-strong-plus, decides-strong-minus, decides-weak-at}
 use Rattle.rights.proofs.Tables.{Low, base-test, view-test, owns-test, beneath-test, names-of, decides-base, decides-view, decides-owns, decides-beneath, names-in, in-names, low-named, low-names-none, levels-of, some-same}
 use Rattle.rights.proofs.Within.{within-refl, within-step, within-back}
-
-yes-no : (g k : Ground) → Some (Answer.Yes g) ≡ Some (Answer.No k) → ⊥
-yes-no g k e = true≢false (cc)
 
 -- a path with the property at every subject but the last is a path along the pairs whose member has it
 module _ (pairs : List Pair) (P : ℕ → Type 0) (f : ℕ → Bool) (d : (s : ℕ) → Decides (f s) (P s)) where
@@ -205,7 +202,6 @@ module _ (pairs : List Pair) (tables : Tables) (entries : List Entry) where
 
   -- the rules give yes exactly where the answer is a yes, of some ground
   pub granted-answer : {u : ℕ} {p : Privilege} {t : ℕ} → Granted pairs tables entries u p t → (g : Ground) × Answers pairs tables entries u p t (Answer.Yes g)
-  unfolding Answers rules First
   granted-answer {u} {p} {t} h = by (granted-yes h) (either-way (strong-plus-test pairs tables entries u p t) (decides-strong-plus pairs tables entries u p t)) (either-way (weakly-test u p t) (decides-weakly u p t))
     where
       Plus : Type 0
@@ -214,17 +210,23 @@ module _ (pairs : List Pair) (tables : Tables) (entries : List Entry) where
       Weak : Type 0
       Weak = Weakly pairs tables entries u p t
 
+      yes : (g : Ground) → Says pairs tables entries u p t (Answer.Yes g) → (g : Ground) × Answers pairs tables entries u p t (Answer.Yes g)
+      yes g s = (g, says-answers pairs tables entries u p t (Answer.Yes g) s)
+
       by : Gives-yes u p t → Plus ⊎ (Plus → ⊥) → Weak ⊎ (Weak → ⊥) → (g : Ground) × Answers pairs tables entries u p t (Answer.Yes g)
-      by h (inl s) w = (Ground.Strong, inl (s, refl))
+      by h (inl s) w = yes Ground.Strong s
       by (inl s) (inr n) w = absurd (n s)
-      by (inr k) (inr n) (inl w) = (Ground.Weak, inr (n, inr (k .0, inl (w, refl))))
-      by (inr k) (inr n) (inr m) = (Ground.Named, inr (n, inr (k .0, inr (m, inl (⊎-elim (λ w. absurd (m w)) (λ b. b) (k .1), refl)))))
+      by (inr k) (inr n) (inl w) = yes Ground.Weak ((n, k .0), w)
+      by (inr k) (inr n) (inr m) = yes Ground.Named ((n, k .0), m, ⊎-elim (λ w. absurd (m w)) (λ b. b) (k .1))
 
   pub answer-granted : (u : ℕ) (p : Privilege) (t : ℕ) (g : Ground) → Answers pairs tables entries u p t (Answer.Yes g) → Granted pairs tables entries u p t
-  unfolding Answers rules First ByNames
-  answer-granted u p t g h = ⊎-elim (λ s. strongly (s .0)) (λ a. ⊎-elim (λ d. absurd (yes-no g Ground.Strong (d .1)))
-      (λ b. ⊎-elim (λ w. weakly (b .0) (w .0)) (λ c. ⊎-elim (λ n. by-names (b .0) (n .0 .0) (n .0 .1) (n .0 .2))
-      (λ l. ⊎-elim (λ k. absurd (yes-no g Ground.Nothing (k .1))) (λ k. absurd (k .0 tt)) (l .1)) (c .1)) (b .1)) (a .1)) h
+  answer-granted u p t g h = by g (answers-says pairs tables entries u p t (Answer.Yes g) h)
+    where
+      by : (g : Ground) → Says pairs tables entries u p t (Answer.Yes g) → Granted pairs tables entries u p t
+      by Ground.Nothing s = absurd s
+      by Ground.Strong s = yes-granted u p t (inl s)
+      by Ground.Weak s = yes-granted u p t (inr (s .0 .1, inl (s .1)))
+      by Ground.Named s = yes-granted u p t (inr (s .0 .1, inr (s .2)))
 
   pub granted-or-not : Levelled tables → (u : ℕ) (p : Privilege) (t : ℕ) → Granted pairs tables entries u p t ⊎ (Granted pairs tables entries u p t → ⊥)
   granted-or-not levels u p t = let l = levels-of tables levels t in either-way (granted-test (l .0) u p t) (decides-granted (l .0) u p t (l .1))

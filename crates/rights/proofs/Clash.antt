@@ -1,7 +1,7 @@
 -- The laws of clash: it is the first and the second rule applying together where minuses stand on base tables only,
--- it grows with the pairs and the entries, and a test decides it.
-use mathlib.Core.Path.{_≡_, refl, sym, ap, subst, _∙_}
-use mathlib.Core.Bool.{Bool, true, false, true≢false, _&&_, _||_}
+-- it grows with the pairs, the tables and the entries, and a test decides it.
+use mathlib.Core.Path.{_≡_, refl, sym, ap, subst}
+use mathlib.Core.Bool.{Bool, _&&_, _||_}
 use mathlib.Core.Logic.{_⊎_, inl, inr, ⊎-elim}
 use mathlib.Core.List.{List, [], _∷_, _++_, map}
 use Prim.Native.Nat.{ℕ}
@@ -16,34 +16,39 @@ use Rattle.rights.specs.declared.vocabulary.Sign.{Sign}
 use Rattle.rights.specs.declared.vocabulary.Strength.{Strength}
 use Rattle.rights.specs.Access.{Denied}
 use Rattle.rights.specs.Clash.{Clash, Clashing}
-use Rattle.rights.specs.Holding.{Gives, Holds, StrongPlus, StrongMinus, MinusOnBases}
+use Rattle.rights.specs.Holding.{Holds, StrongPlus, StrongMinus, MinusOnBases}
 use Rattle.rights.specs.Lists.{In}
 use Rattle.rights.specs.Pairs.{pair}
-use Rattle.rights.specs.Tables.{Tables, IsBase, Beneath, AtOrBeneath, Levelled}
+use Rattle.rights.specs.Tables.{Tables, IsBase, AtOrBeneath, Levelled, Extends}
 use Rattle.rights.specs.Within.{Within, Below}
 use Rattle.rights.proofs.Deciding.{Among, Some-in, some-test, decides-some, either-way}
 use Rattle.rights.proofs.Holding.{same-right, decides-same-right, within-test, decides-within, strong-plus-test, decides-strong-plus, strong-plus-grows, strong-minus-grows}
-use Rattle.rights.proofs.Tables.{Low, beneath-base, beneath-test, decides-beneath, levels-of}
+use Rattle.rights.proofs.Parts.{in-left, in-right}
+use Rattle.rights.proofs.Tables.{Low, beneath-base, beneath-extends, beneath-test, decides-beneath, levels-of}
 use Rattle.rights.proofs.Within.{within-cases}
 
--- more pairs and more entries, no fewer clashes
-pub clash-grows : (ps qs : List Pair) → Among ps qs → (tables : Tables) (es fs : List Entry) → Among es fs → (s : ℕ) → Clash ps tables es s → Clash qs tables fs s
-unfolding Clash
-clash-grows ps qs pairs-in tables es fs entries-in s c =
-    (c .0, c .1, c .2, strong-plus-grows ps qs pairs-in es fs entries-in tables s (c .0) (c .1) (c .3), c .4, strong-minus-grows ps qs pairs-in es fs entries-in s (c .0) (c .2) (c .5))
+-- more pairs, tables and entries: no less is denied, and there are no fewer clashes
+module _ (ps qs : List Pair) (pairs-in : Among ps qs) (tables more : Tables) (keeps : Extends tables more) (es fs : List Entry) (entries-in : Among es fs) where
+  pub denied-grows : (u : ℕ) (p : Privilege) (t : ℕ) → Denied ps tables es u p t → Denied qs more fs u p t
+  unfolding Denied
+  denied-grows u p t (inl m) = inl (strong-minus-grows ps qs pairs-in es fs entries-in u p t m)
+  denied-grows u p t (inr h) = let base = h .1 in
+      inr (h .0, (base .0, keeps (h .0) (base .0) (base .1), base .2), beneath-extends tables more keeps (h .2), strong-minus-grows ps qs pairs-in es fs entries-in u p (h .0) (h .3))
 
-pub clashing-grows : (ps qs : List Pair) → Among ps qs → (tables : Tables) (es fs : List Entry) → Among es fs → Clashing ps tables es → Clashing qs tables fs
-unfolding Clashing
-clashing-grows ps qs pairs-in tables es fs entries-in c = (c .0, clash-grows ps qs pairs-in tables es fs entries-in (c .0) (c .1))
+  pub clash-grows : (s : ℕ) → Clash ps tables es s → Clash qs more fs s
+  unfolding Clash
+  clash-grows s c = (
+    c .0,
+    c .1,
+    c .2,
+    strong-plus-grows ps qs pairs-in es fs entries-in tables more keeps s (c .0) (c .1) (c .3),
+    ⊎-elim (λ e. inl e) (λ q. inr (beneath-extends tables more keeps q)) (c .4),
+    strong-minus-grows ps qs pairs-in es fs entries-in s (c .0) (c .2) (c .5),
+  )
 
-in-left : {X : Type 0} (x : X) (xs ys : List X) → In x xs → In x (xs ++ ys)
-in-left x [] ys i = absurd i
-in-left x (y ∷ xs) ys (inl e) = inl e
-in-left x (y ∷ xs) ys (inr i) = inr (in-left x xs ys i)
-
-in-right : {X : Type 0} (x : X) (xs ys : List X) → In x ys → In x (xs ++ ys)
-in-right x [] ys i = i
-in-right x (y ∷ xs) ys i = inr (in-right x xs ys i)
+  pub clashing-grows : Clashing ps tables es → Clashing qs more fs
+  unfolding Clashing
+  clashing-grows c = (c .0, clash-grows (c .0) (c .1))
 
 in-map : {X Y : Type 0} (f : X → Y) (x : X) (xs : List X) → In x xs → In (f x) (map f xs)
 in-map f x [] i = absurd i

@@ -1,11 +1,12 @@
 -- The laws of holding: it grows with the pairs and with the entries, and tests decide it.
-use mathlib.Core.Path.{_≡_, refl, sym, ap, ap₂, subst, _∙_}
-use mathlib.Core.Bool.{Bool, true, false, true≢false, _&&_, _||_}
-use mathlib.Core.Logic.{_⊎_, inl, inr, ⊎-elim}
+use mathlib.Core.Path.{_≡_, ap}
+use mathlib.Core.Bool.{Bool, _&&_, _||_}
+use mathlib.Core.Logic.{inl, inr}
 use mathlib.Core.List.{List, [], _∷_}
 use Prim.Native.Nat.{ℕ}
 use lib.Dec.{eqb}
 use Rattle.std.specs.Orderings.{Decides}
+use Rattle.std.specs.declared.option.Option.the-variants.{Some}
 use Rattle.std.proofs.shelf.Ways.{decides-eqb, decides-and, decides-or, decides-like}
 use Rattle.rights.specs.declared.entries.Entry.{Entry}
 use Rattle.rights.specs.declared.entries.Pair.{Pair}
@@ -18,13 +19,13 @@ use Rattle.rights.specs.Bits.{bit}
 use Rattle.rights.specs.Entries.{same-entry}
 use Rattle.rights.specs.Holding.{Gives, Holds, StrongPlus, StrongMinus}
 use Rattle.rights.specs.Lists.{In}
-use Rattle.rights.specs.Tables.{Tables, IsBase, Owns}
+use Rattle.rights.specs.Tables.{Table, Tables, Extends}
 use Rattle.rights.specs.Within.{Within}
 use Rattle.rights.proofs.Bits.{bit-injective}
 use Rattle.rights.proofs.Deciding.{Among, some-test, decides-some, decides-in}
 use Rattle.rights.proofs.Order.{decides-same}
 use Rattle.rights.proofs.Tables.{base-test, owns-test, decides-base, decides-owns}
-use Rattle.rights.proofs.Within.{Through, within-same, within-none, within-grows, within-more, within-through}
+use Rattle.rights.proofs.Within.{within-same, within-none, within-grows, within-more, within-through}
 
 -- more pairs and more entries, more is held
 module _ (ps qs : List Pair) (pairs-in : Among ps qs) (es fs : List Entry) (entries-in : Among es fs) where
@@ -32,10 +33,13 @@ module _ (ps qs : List Pair) (pairs-in : Among ps qs) (es fs : List Entry) (entr
   unfolding Holds
   holds-grows s p sign t r h = (h .0, entries-in (h .0) (h .1), h .2, within-grows ps qs pairs-in s (h .0 .subject) (h .3))
 
-  pub strong-plus-grows : (tables : Tables) (s : ℕ) (p : Privilege) (t : ℕ) → StrongPlus ps tables es s p t → StrongPlus qs tables fs s p t
+  pub strong-plus-grows : (tables more : Tables) → Extends tables more → (s : ℕ) (p : Privilege) (t : ℕ) → StrongPlus ps tables es s p t → StrongPlus qs more fs s p t
   unfolding StrongPlus
-  strong-plus-grows tables s p t (inl h) = inl (holds-grows s p Sign.Plus t Strength.Strong h)
-  strong-plus-grows tables s p t (inr o) = inr o
+  strong-plus-grows tables more keeps s p t (inl h) = inl (holds-grows s p Sign.Plus t Strength.Strong h)
+  strong-plus-grows tables more keeps s p t (inr o) = inr (table-grows (λ r. r .names ≡ []) (o .0), table-grows (λ r. r .owner ≡ s) (o .1))
+    where
+      table-grows : (P : Table → Type 0) → (r : Table) × (tables t ≡ Some r) × P r → (r : Table) × (more t ≡ Some r) × P r
+      table-grows P h = (h .0, keeps t (h .0) (h .1), h .2)
 
   pub strong-minus-grows : (s : ℕ) (p : Privilege) (t : ℕ) → StrongMinus ps es s p t → StrongMinus qs fs s p t
   unfolding StrongMinus

@@ -8,6 +8,10 @@ use Rattle.rights.specs.Cover.{Supported}
 use Rattle.rights.specs.Lists.{In, Parted}
 use Rattle.rights.specs.Tables.{Tables}
 
+-- an entry other than the one revoked, among those that stand
+abbrev pub Others : List Entry → Entry → Entry → Type 0
+Others entries named e = In e entries × (e ≡ named → ⊥)
+
 module _ (tables : Tables) where
   -- every entry of the list stands and is supported by those before it, which are those further on in the list
   abbrev pub Chain : (Entry → Type 0) → List Entry → Type 0
@@ -17,10 +21,6 @@ module _ (tables : Tables) where
   -- among the entries that stand, e ends a chain
   unfoldable pub HasChain : (Entry → Type 0) → Entry → Type 0
   HasChain Standing e = (earlier : List Entry) × Chain Standing (e ∷ earlier)
-
-  -- an entry other than the one revoked, among those that stand
-  abbrev pub Others : List Entry → Entry → Entry → Type 0
-  Others entries named e = In e entries × (e ≡ named → ⊥)
 
   -- the named entry is struck, and then every entry without a chain in what is left
   unfoldable pub Revoked : Entry → List Entry → List Entry → List Entry → Type 0

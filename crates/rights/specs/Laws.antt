@@ -1,9 +1,10 @@
 -- The laws of the rules of access, over any pairs, tables and entries.
--- AccessLaws: all of them. SameBelow: two states that agree at a table and beneath it.
+-- AccessLaws: all of them. SameBelow: two states that agree at a table and beneath it. MoreOf: a state that grew.
 use mathlib.Core.Path.{_≡_}
 use mathlib.Core.Logic.{_⊎_, _↔_}
 use mathlib.Core.List.{List}
 use Prim.Native.Nat.{ℕ, _<_}
+use Rattle.std.specs.declared.option.Option.the-variants.{None}
 use Rattle.rights.specs.declared.commands.Answer.{Answer}
 use Rattle.rights.specs.declared.commands.Ground.{Ground}
 use Rattle.rights.specs.declared.entries.Entry.{Entry}
@@ -13,7 +14,7 @@ use Rattle.rights.specs.Access.{Answers, Denied, Granted}
 use Rattle.rights.specs.Clash.{Clash, Clashing}
 use Rattle.rights.specs.Holding.{StrongPlus, StrongMinus, MinusOnBases}
 use Rattle.rights.specs.Lists.{In}
-use Rattle.rights.specs.Tables.{Tables, Names, Beneath, AtOrBeneath, Level, Levelled}
+use Rattle.rights.specs.Tables.{Table, Tables, made, unmade, Names, Beneath, AtOrBeneath, Level, Levelled, Extends}
 
 -- no question has two answers, and where every table has a level each has one
 abbrev pub One-answer : Type 0
@@ -43,11 +44,37 @@ Clash-denies = (pairs : List Pair) (tables : Tables) (entries : List Entry) → 
     ((p : Privilege) (t : ℕ) → Denied pairs tables entries s p t ↔ ((b : ℕ) × AtOrBeneath tables b t × StrongMinus pairs entries s p b)) ×
     (Clash pairs tables entries s ↔ ((p : Privilege) × (t : ℕ) × StrongPlus pairs tables entries s p t × Denied pairs tables entries s p t))
 
--- more pairs and more entries, no fewer clashes; and one can tell whether there is one
-abbrev pub Clash-grows : Type 0
-Clash-grows = (pairs pairs′ : List Pair) (tables : Tables) (entries entries′ : List Entry) →
-    ((a : Pair) → In a pairs → In a pairs′) → ((e : Entry) → In e entries → In e entries′) → (s : ℕ) → Clash pairs tables entries s → Clash pairs′ tables entries′ s
+-- the second state has every pair, table and entry of the first
+pub record MoreOf (pairs : List Pair) (tables : Tables) (entries : List Entry) (pairs′ : List Pair) (tables′ : Tables) (entries′ : List Entry) : Type 0 where
+  pub pairs-stay : (a : Pair) → In a pairs → In a pairs′
+  pub tables-stay : Extends tables tables′
+  pub entries-stay : (e : Entry) → In e entries → In e entries′
 
+-- where more stands there are no fewer clashes
+abbrev pub Clash-grows : Type 0
+Clash-grows = (pairs pairs′ : List Pair) (tables tables′ : Tables) (entries entries′ : List Entry) → MoreOf pairs tables entries pairs′ tables′ entries′ →
+    (s : ℕ) → Clash pairs tables entries s → Clash pairs′ tables′ entries′ s
+
+-- where more stands a strong yes is still a strong yes, and a strong no still a strong no unless the asker is a clash
+abbrev pub Strong-stays : Type 0
+Strong-stays = (pairs pairs′ : List Pair) (tables tables′ : Tables) (entries entries′ : List Entry) → MoreOf pairs tables entries pairs′ tables′ entries′ →
+    (u : ℕ) (p : Privilege) (t : ℕ) →
+    (Answers pairs tables entries u p t (Answer.Yes Ground.Strong) → Answers pairs′ tables′ entries′ u p t (Answer.Yes Ground.Strong)) ×
+    ((Clash pairs′ tables′ entries′ u → ⊥) → Answers pairs tables entries u p t (Answer.No Ground.Strong) → Answers pairs′ tables′ entries′ u p t (Answer.No Ground.Strong))
+
+-- a table made under a free number, with no entry on it, changes no answer about another and makes no clash
+abbrev pub Made-apart : Type 0
+Made-apart = (pairs : List Pair) (tables : Tables) (entries : List Entry) (t : ℕ) (r : Table) → Levelled tables → tables t ≡ None → ((e : Entry) → In e entries → e .table ≡ t → ⊥) →
+    ((d : ℕ) → (d ≡ t → ⊥) → (u : ℕ) (p : Privilege) (a : Answer) → Answers pairs tables entries u p d a ↔ Answers pairs (made t r tables) entries u p d a) ×
+    ((s : ℕ) → Clash pairs (made t r tables) entries s → Clash pairs tables entries s)
+
+-- a table that no view names, taken out with the entries on it, changes no answer about another
+abbrev pub Dropped-apart : Type 0
+Dropped-apart = (pairs : List Pair) (tables : Tables) (entries entries′ : List Entry) (t : ℕ) → ((v : ℕ) → Names tables v t → ⊥) →
+    ((e : Entry) → (e .table ≡ t → ⊥) → In e entries ↔ In e entries′) →
+    (d : ℕ) → (d ≡ t → ⊥) → (u : ℕ) (p : Privilege) (a : Answer) → Answers pairs tables entries u p d a ↔ Answers pairs (unmade t tables) entries′ u p d a
+
+-- one can tell whether there is a clash
 abbrev pub Clash-told : Type 0
 Clash-told = (pairs : List Pair) (tables : Tables) (entries : List Entry) → Levelled tables → Clashing pairs tables entries ⊎ (Clashing pairs tables entries → ⊥)
 
@@ -65,4 +92,7 @@ pub record AccessLaws : Type 0 where
   pub clash-denies : Clash-denies
   pub clash-grows : Clash-grows
   pub clash-told : Clash-told
+  pub strong-stays : Strong-stays
+  pub made-apart : Made-apart
+  pub dropped-apart : Dropped-apart
   pub levels-fall : Levels-fall

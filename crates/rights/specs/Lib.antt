@@ -3,6 +3,7 @@ pub mod Bits
 pub mod Chain
 pub mod Checks
 pub mod Clash
+pub mod Contrasts
 pub mod Cover
 pub mod Entries
 pub mod Faults
@@ -10,6 +11,7 @@ pub mod History
 pub mod Holding
 pub mod Laws
 pub mod Lists
+pub mod Mandates
 pub mod Numbers
 pub mod Pairs
 pub mod Read
@@ -19,3 +21,4 @@ pub mod Scenes
 pub mod Subjects
 pub mod Tables
 pub mod Within
+pub mod Worked

@@ -66,3 +66,7 @@ mutual
 -- every table that stands has a level, so no view is beneath itself and whatever is named stands
 abbrev pub Levelled : Tables → Type 0
 Levelled tables = (t : ℕ) → Stands tables t → (n : ℕ) × Level tables t n
+
+-- whatever stands in the one stands in the other
+abbrev pub Extends : Tables → Tables → Type 0
+Extends tables more = (t : ℕ) (r : Table) → tables t ≡ Some r → more t ≡ Some r
