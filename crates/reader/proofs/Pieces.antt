@@ -15,7 +15,7 @@ use Rattle.std.proofs.shelf.Lists.{append-nil, getD-take, getD-drop, take-appen
 use Rattle.std.proofs.shelf.Parts.{between-is}
 use Rattle.std.proofs.shelf.Tests.{ne-eqb, lt-ltb, le-ltb, cond-true, cond-false, cases-lt}
 use Rattle.reader.specs.Lines.{Without, onto, lines, parts}
-use Rattle.reader.specs.Reading.{Stands}
+use Rattle.reader.specs.Reading.{Stands, CutLine, CutPart}
 
 pub lines-none : lines [] ≡ []
 unfolding lines
@@ -49,26 +49,26 @@ pub record Run (bytes : List ℕ) (i j stop : ℕ) : Type 0 where
   pub stops : j < length bytes → getD bytes j 0 ≡ stop
 
 module _ {bytes : List ℕ} {i j stop : ℕ} (run : Run bytes i j stop) where
-  pub run-length : length (between i j bytes) ≡ j - i
+  run-length : length (between i j bytes) ≡ j - i
   run-length = length-between bytes i j (run .within)
 
-  pub run-without : Without stop (between i j bytes)
+  run-without : Without stop (between i j bytes)
   run-without =
       all-from-getD (λ x. x ≡ stop → ⊥) (between i j bytes) 0
       (λ k h e. let short : k < j - i = omega (arith, run-length) in run .passed (i + k) (omega arith) (omega arith) (sym (getD-take (j - i) (drop i bytes) k 0 short ∙ getD-drop i bytes k 0) ∙ e))
 
-  pub run-split : drop i bytes ≡ between i j bytes ++ drop j bytes
+  run-split : drop i bytes ≡ between i j bytes ++ drop j bytes
   run-split =
       sym (take-append-drop (j - i) (drop i bytes)) ∙ ap (λ r. between i j bytes ++ r) (drop-drop (j - i) i bytes ∙ ap (λ n. drop n bytes) (omega (arith, run .onward)))
 
-  pub run-stop : j < length bytes → drop i bytes ≡ between i j bytes ++ stop ∷ drop (j + 1) bytes
+  run-stop : j < length bytes → drop i bytes ≡ between i j bytes ++ stop ∷ drop (j + 1) bytes
   run-stop h = run-split ∙ ap (λ r. between i j bytes ++ r) (drop-more bytes j 0 h ∙ ap (λ b. b ∷ drop (j + 1) bytes) (run .stops h))
 
-  pub run-end : length bytes ≤ j → drop i bytes ≡ between i j bytes
+  run-end : length bytes ≤ j → drop i bytes ≡ between i j bytes
   run-end h = run-split ∙ ap (λ r. between i j bytes ++ r) (drop-all j bytes h) ∙ append-nil (between i j bytes)
 
 -- what is left of a sheet where the next line ends at j
-pub next-line : (bytes : List ℕ) (i j n : ℕ) → Run bytes i j 10 → i < length bytes → n ≡ min (length bytes) (j + 1) → lines (drop i bytes) ≡ between i j bytes ∷ lines (drop n bytes)
+next-line : (bytes : List ℕ) (i j n : ℕ) → Run bytes i j 10 → i < length bytes → n ≡ min (length bytes) (j + 1) → lines (drop i bytes) ≡ between i j bytes ∷ lines (drop n bytes)
 next-line bytes i j n run some e = ⊎-elim within ended (cases-lt j (length bytes))
   where
     within : j < length bytes → lines (drop i bytes) ≡ between i j bytes ∷ lines (drop n bytes)
@@ -86,7 +86,7 @@ next-line bytes i j n run some e = ⊎-elim within ended (cases-lt j (length byt
         ap lines (run-end run h) ∙ last (between i j bytes) (run-without run) (omega (arith, run-length run)) ∙ ap (λ ls. between i j bytes ∷ ls) (sym none)
 
 -- what is left of a line where the next part ends at j
-pub next-part : (line : List ℕ) (i j n : ℕ) → Run line i j 32 → n ≡ min (length line) (j + 1) → parts (drop i line) ≡ between i j line ∷ cond (ltb j (length line)) (parts (drop n line)) []
+next-part : (line : List ℕ) (i j n : ℕ) → Run line i j 32 → n ≡ min (length line) (j + 1) → parts (drop i line) ≡ between i j line ∷ cond (ltb j (length line)) (parts (drop n line)) []
 next-part line i j n run e = ⊎-elim within ended (cases-lt j (length line))
   where
     within : j < length line → parts (drop i line) ≡ between i j line ∷ cond (ltb j (length line)) (parts (drop n line)) []
@@ -99,7 +99,7 @@ next-part line i j n run e = ⊎-elim within ended (cases-lt j (length line))
         ap parts (run-end run h) ∙ parts-last (between i j line) (run-without run) ∙ ap (λ ps. between i j line ∷ ps) (sym (cond-false (ltb j (length line)) _ _ (le-ltb j (length line) h)))
 
 -- what stands in a part of some bytes stands in these, as much further on as the part does
-pub stands-within : (bytes line part : List ℕ) (at i : ℕ) → Stands bytes at line → Stands line i part → Stands bytes (at + i) part
+stands-within : (bytes line part : List ℕ) (at i : ℕ) → Stands bytes at line → Stands line i part → Stands bytes (at + i) part
 stands-within bytes line part at i outer inner =
     (there ∙ inner .0, omega (arith, outer .1, inner .1))
   where
@@ -109,3 +109,26 @@ stands-within bytes line part at i outer inner =
     there : take (length part) (drop (at + i) bytes) ≡ take (length part) (drop i line)
     there =
         ap (take (length part)) (sym (drop-drop i at bytes)) ∙ sym (take-take (length part) (length line - i) (drop i (drop at bytes)) (omega (arith, inner .1))) ∙ ap (take (length part)) (between-is (drop at bytes) i (length line) ∙ ap (drop i) (outer .0))
+
+run-stands : {bytes : List ℕ} {i j stop : ℕ} → Run bytes i j stop → Stands bytes i (between i j bytes)
+run-stands {bytes} {i} run = (ap (λ n. take n (drop i bytes)) (run-length run), omega (arith, run-length run, run .onward, run .within))
+
+pub cut-line : (bytes : List ℕ) (i j n : ℕ) → Run bytes i j 10 → i < length bytes → n ≡ min (length bytes) (j + 1) → CutLine bytes i j n
+cut-line bytes i j n run some e = record {
+  first = next-line bytes i j n run some e;
+  long = omega (arith, run-length run, run .onward);
+  stands = run-stands run;
+  within = (run .onward, run .within);
+  onward = omega (arith, run .onward);
+  past = e;
+}
+
+pub cut-part : (line : List ℕ) (i j n : ℕ) → Run line i j 32 → n ≡ min (length line) (j + 1) → CutPart line i j n
+cut-part line i j n run e = record {
+  first = λ more on. cond-true more _ _ on ∙ next-part line i j n run e;
+  long = omega (arith, run-length run, run .onward);
+  stands = run-stands run;
+  sheet = λ bytes at h. stands-within bytes line (between i j line) at i h (run-stands run);
+  within = (run .onward, run .within);
+  past = e;
+}

@@ -1,10 +1,11 @@
 -- What a reader gives, one line after the other, and where it then stands.
 use mathlib.Core.Path.{_≡_}
-use mathlib.Core.Bool.{cond}
+use mathlib.Core.Bool.{Bool, true, cond}
 use mathlib.Core.List.{List, [], _∷_, map}
 use Prim.Native.Nat.{ℕ, _+_, _≤_, _<_, min}
 use lib.Dec.{ltb}
 use lib.ListN.{length, take, drop}
+use Rattle.std.specs.Holes.{between}
 use Rattle.std.specs.Written.{decimal}
 use Rattle.std.specs.shelf.Lists.{All}
 use Rattle.reader.specs.declared.shapes.Reader.{Reader}
@@ -25,6 +26,24 @@ rest r = drop (r .at) (sheet r)
 -- part stands in bytes at a place
 abbrev pub Stands : List ℕ → ℕ → List ℕ → Type 0
 Stands bytes at part = (take (length part) (drop at bytes) ≡ part) × (at + length part ≤ length bytes)
+
+-- the line from i on ends at j, and the next one begins at n
+pub record CutLine (bytes : List ℕ) (i j n : ℕ) : Type 0 where
+  pub first : lines (drop i bytes) ≡ between i j bytes ∷ lines (drop n bytes)
+  pub long : i + length (between i j bytes) ≡ j
+  pub stands : Stands bytes i (between i j bytes)
+  pub within : (i ≤ j) × (j ≤ length bytes)
+  pub onward : i < n
+  pub past : n ≡ min (length bytes) (j + 1)
+
+-- the part from i on ends at j, and the next one, if there is more, begins at n
+pub record CutPart (line : List ℕ) (i j n : ℕ) : Type 0 where
+  pub first : (more : Bool) → more ≡ true → cond more (parts (drop i line)) [] ≡ between i j line ∷ cond (ltb j (length line)) (parts (drop n line)) []
+  pub long : i + length (between i j line) ≡ j
+  pub stands : Stands line i (between i j line)
+  pub sheet : (bytes : List ℕ) (at : ℕ) → Stands bytes at line → Stands bytes (at + i) (between i j line)
+  pub within : (i ≤ j) × (j ≤ length line)
+  pub past : n ≡ min (length line) (j + 1)
 
 -- r is at the front of the sheet; where that is over 32,768 bytes, of an empty one
 pub record Begun (bytes : List ℕ) (r : Reader) : Type 0 where

@@ -5,11 +5,11 @@ use rights::RegisterFault;
 ghost use mathlib.Core.Path.{_≡_};
 ghost use mathlib.Core.List.{_++_};
 ghost use Prim.Native.Nat.{_+_, _≤_};
-ghost use lib.ListN.{length};
+ghost use lib.ListN.{length, drop};
 ghost use Rattle.std.specs.Vec.{made};
 ghost use Rattle.std.specs.Written.{decimal};
 ghost use Rattle.rights.specs.Numbers.{ground-number};
-ghost use Rattle.reader.specs.Answers.{answer-text, Put, Answered};
+ghost use Rattle.reader.specs.Answers.{answer-text, answer-line, Put, Answered};
 
 // The shortest buffer that an answer is written to.
 pub const SHORTEST_BUFFER: usize = 32;
@@ -75,6 +75,19 @@ fn put_answer(buffer: &mut [u8], at: usize, answer: &Answer) -> usize
     }
 }
 
+// Writes the answer to a line at the front of the buffer, and gives its length.
+fn put_line(buffer: &mut [u8], line: u32, answer: &Answer) -> usize
+    requires { ⌜ 32 ≤ length (now buffer) ⌝ }
+    ensures text { λ r. ⌜ now (buffer .exit) ≡ answer-line line (now (answer .entry)) ++ drop r (now (buffer .entry)) ⌝ }
+    ensures past { λ r. ⌜ r ≡ length (answer-line line (now (answer .entry))) ⌝ }
+    ensures short { λ r. ⌜ r ≤ 25 ⌝ }
+{
+    let at = put_number(buffer, 0, line);
+    let at = put_text(buffer, at, b" ");
+    let at = put_answer(buffer, at, answer);
+    put_text(buffer, at, b"\n")
+}
+
 // Writes the answer to a line at the front of the buffer, and gives its length. A short buffer is
 // refused and left as it is.
 pub fn write_answer(buffer: &mut [u8], line: u32, answer: &Answer) -> Result<usize, RegisterFault>
@@ -84,8 +97,5 @@ pub fn write_answer(buffer: &mut [u8], line: u32, answer: &Answer) -> Result<usi
     if buffer.len() < SHORTEST_BUFFER {
         return Err(RegisterFault::ShortList);
     }
-    let at = put_number(buffer, 0, line);
-    let at = put_text(buffer, at, b" ");
-    let at = put_answer(buffer, at, answer);
-    Ok(put_text(buffer, at, b"\n"))
+    Ok(put_line(buffer, line, answer))
 }

@@ -81,11 +81,24 @@ pub(crate) fn command_of(word: Word, list: &[u16]) -> Option<Command>
     }
 }
 
+// The command that a line is, if it is one.
+fn read(line: &Line<'_>) -> Option<Command>
+    ensures { λ r. ⌜ Exactly r (λ c. Plain c × (written c ≡ now (now (line .entry) .bytes))) ⌝ }
+{
+    let mut parts = line.parts();
+    let Some(first) = parts.next_part() else {
+        return None;
+    };
+    let word = first.word()?;
+    let rest = numbers(&mut parts)?;
+    command_of(word, rest.list())
+}
+
 // The longest line that is read, without its end byte.
 pub const LONGEST_LINE: usize = 80;
 
 impl Line<'_> {
-    // The command that the line is, if it is one.
+    // The command that the line is, if it is one. No line over `LONGEST_LINE` bytes is.
     pub fn command(&self) -> Option<Command>
         ensures exactly { λ r. ⌜ Exactly r (λ c. Plain c × (written c ≡ now (now (self .entry) .bytes))) ⌝ }
         ensures long { λ r. ⌜ (80 < length (now (now (self .entry) .bytes)) → r ≡ None) ⌝ }
@@ -93,12 +106,6 @@ impl Line<'_> {
         if self.bytes.len() > LONGEST_LINE {
             return None;
         }
-        let mut parts = self.parts();
-        let Some(first) = parts.next_part() else {
-            return None;
-        };
-        let word = first.word()?;
-        let rest = numbers(&mut parts)?;
-        command_of(word, rest.list())
+        read(self)
     }
 }

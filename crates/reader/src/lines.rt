@@ -6,7 +6,7 @@ ghost use Prim.Native.Nat.{ℕ, _≤_, _<_};
 ghost use lib.Dec.{leb};
 ghost use lib.ListN.{length, getD};
 ghost use Rattle.std.specs.Options.{Cases};
-ghost use Rattle.reader.specs.Reading.{Begun, Ended, Next};
+ghost use Rattle.reader.specs.Reading.{CutLine, Begun, Ended, Next};
 
 // The longest sheet that is read.
 pub const LONGEST: usize = 32_768;
@@ -31,6 +31,18 @@ pub(crate) fn run(bytes: &[u8], from: usize, stop: u8) -> usize
         at += 1;
     }
     at
+}
+
+// Where the line from `from` on ends, and where the next one begins.
+fn cut_line(bytes: &[u8], from: usize) -> (usize, usize)
+    requires { ⌜ from < length (now bytes) ⌝ }
+    ensures { λ r. ⌜ CutLine (now (bytes .entry)) from (r .0) (r .1) ⌝ }
+{
+    let end = run(bytes, from, b'\n');
+    if end < bytes.len() {
+        return (end, end + 1);
+    }
+    (end, end)
 }
 
 impl<'a> Reader<'a> {
@@ -61,8 +73,8 @@ impl<'a> Reader<'a> {
             return None;
         }
         let at = self.at;
-        let end = run(self.bytes, at, b'\n');
-        self.at = if end < self.bytes.len() { end + 1 } else { end };
+        let (end, next) = cut_line(self.bytes, at);
+        self.at = next;
         self.line += 1;
         Some(Line {
             number: self.line,

@@ -10,26 +10,32 @@ ghost use Rattle.reader.specs.Exactly.{Exactly};
 ghost use Rattle.reader.specs.Reading.{left, counted, Numbered};
 ghost use mathlib.Core.List.{List};
 
+// The number that some digits are, if they are 1 to 3 without a leading zero.
+fn value_of(digits: &[u8]) -> Option<u16>
+    ensures { λ r. ⌜ Exactly r (λ n. (n ≤ 999) × (decimal n ≡ now (digits .entry))) ⌝ }
+{
+    if digits.is_empty() || digits.len() > 3 {
+        return None;
+    }
+    if digits[0] == b'0' && digits.len() > 1 {
+        return None;
+    }
+    let mut value = 0;
+    for digit in digits {
+        if !digit.is_ascii_digit() {
+            return None;
+        }
+        value = value * 10 + u16::from(*digit - b'0');
+    }
+    Some(value)
+}
+
 impl Part<'_> {
     // The number that stands here, if one of 1 to 3 digits without a leading zero does.
     pub fn number(&self) -> Option<u16>
         ensures { λ r. ⌜ Exactly r (λ n. (n ≤ 999) × (decimal n ≡ now (now (self .entry) .bytes))) ⌝ }
     {
-        let digits = self.bytes;
-        if digits.is_empty() || digits.len() > 3 {
-            return None;
-        }
-        if digits[0] == b'0' && digits.len() > 1 {
-            return None;
-        }
-        let mut value = 0;
-        for digit in digits {
-            if !digit.is_ascii_digit() {
-                return None;
-            }
-            value = value * 10 + u16::from(*digit - b'0');
-        }
-        Some(value)
+        value_of(self.bytes)
     }
 }
 

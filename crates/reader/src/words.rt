@@ -4,9 +4,11 @@ use crate::shapes::Line;
 use crate::shapes::Part;
 use crate::shapes::Parts;
 ghost use mathlib.Core.Path.{_≡_};
+ghost use Prim.Native.Nat.{_≤_};
+ghost use lib.ListN.{length};
 ghost use Rattle.std.specs.Options.{Cases};
 ghost use Rattle.reader.specs.Exactly.{Exactly};
-ghost use Rattle.reader.specs.Reading.{Opened, NoPart, NextPart};
+ghost use Rattle.reader.specs.Reading.{CutPart, Opened, NoPart, NextPart};
 ghost use Rattle.reader.specs.Words.{text};
 
 #[derive(Clone, Copy)]
@@ -40,6 +42,18 @@ impl<'a> Line<'a> {
     }
 }
 
+// Where the part from `from` on ends, and where the next one begins.
+fn cut_part(line: &[u8], from: usize) -> (usize, usize)
+    requires { ⌜ from ≤ length (now line) ⌝ }
+    ensures { λ r. ⌜ CutPart (now (line .entry)) from (r .0) (r .1) ⌝ }
+{
+    let end = run(line, from, b' ');
+    if end < line.len() {
+        return (end, end + 1);
+    }
+    (end, end)
+}
+
 impl<'a> Parts<'a> {
     // Takes the next part, which ends at a space or with the line. None past the last one.
     pub fn next_part(&mut self) -> Option<Part<'a>>
@@ -49,9 +63,9 @@ impl<'a> Parts<'a> {
             return None;
         }
         let at = self.at;
-        let end = run(self.line, at, b' ');
+        let (end, next) = cut_part(self.line, at);
         self.more = end < self.line.len();
-        self.at = if self.more { end + 1 } else { end };
+        self.at = next;
         Some(Part {
             at,
             bytes: &self.line[at..end],

@@ -1,31 +1,6 @@
-use mathlib.Core.Path.{refl, sym, subst, _∙_}
-use native.Mathlib.Omega.{arith}
-use Rattle.reader.specs.Exactly.{Exactly}
-use Rattle.reader.specs.Reading.{counted}
-use Rattle.reader.proofs.Made.{Made}
-use Rattle.reader.proofs.Written.{ReadsAs, too-long, no-part, no-word, no-numbers, reads-as}
+use mathlib.Core.Path.{refl}
+use Rattle.reader.proofs.Written.{too-long}
 use Rattle.reader.proofs.shapes.Line.command.Needs as need
 
 pub returns-then-self-gt-LONGEST-LINE : need.returns-then-self-gt-LONGEST-LINE
 returns-then-self-gt-LONGEST-LINE c = record { exactly = too-long (c .args .self .now .bytes .now) (c .if-self-gt-LONGEST-LINE .taken); long = λ _. refl }
-
-pub returns-in-rest : need.returns-in-rest
-returns-in-rest c = record { exactly = no-part (c .args .self .now .bytes .now) (sym (c .parts-parts .ensures .whole) ∙ c .in-rest .ensures tt .0); long = λ _. refl }
-
-pub returns-in-Break-word : need.returns-in-Break-word
-returns-in-Break-word c =
-    let split = sym (c .parts-parts .ensures .whole) ∙ c .in-Some .ensures tt .first in
-    record { exactly = subst (λ o. Exactly o (ReadsAs (c .args .self .now .bytes .now))) (sym (c .from-residual .ensures)) (no-word split (c .in-Break-word .ensures tt)); long = λ _. c .from-residual .ensures }
-
-pub returns-in-Break-rest : need.returns-in-Break-rest
-returns-in-Break-rest c =
-    let split = sym (c .parts-parts .ensures .whole) ∙ c .in-Some .ensures tt .first in
-    record { exactly = subst (λ o. Exactly o (ReadsAs (c .args .self .now .bytes .now))) (sym (c .from-residual-in-Break-rest .ensures)) (no-numbers split (c .in-Break-rest .ensures tt)); long = λ _. c .from-residual-in-Break-rest .ensures }
-
-pub returns : need.returns
-returns c =
-    let split = sym (c .parts-parts .ensures .whole) ∙ c .in-Some .ensures tt .first in
-    let word = c .in-Continue-word .word in
-    let rest = c .in-Continue-rest .rest in
-    let told = subst (λ ns. Exactly (c .command-of .result) (Made word ns)) (c .list .ensures) (c .command-of .ensures) in
-    record { exactly = reads-as split word (counted rest) (c .command-of .result) (c .word .ensures word .0 (c .in-Continue-word .was tt)) (c .in-Continue-rest .ensures tt) told; long = λ long. absurd (omega (arith, c .if-self-gt-LONGEST-LINE .left)) }

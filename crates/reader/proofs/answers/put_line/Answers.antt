@@ -8,7 +8,7 @@ use Rattle.std.proofs.shelf.Lists.{length-append}
 use Rattle.reader.specs.Answers.{answer-text, answer-line, Put}
 use Rattle.reader.proofs.Placed.{put-more, put-length, put-front}
 use Rattle.reader.proofs.Sizes.{count-short}
-use Rattle.reader.proofs.answers.write_answer.Needs as need
+use Rattle.reader.proofs.answers.put_line.Needs as need
 
 pub put-number-at-requires : need.put-number-at-requires
 put-number-at-requires c κs = omega (arith, count-short (c .args .line) (omega arith))
@@ -46,4 +46,4 @@ returns c =
     let front = put-more (c .put-number-at .ensures) (c .put-text-at .ensures) (omega arith) in
     let most = put-more front (c .put-answer-at .ensures .put) (omega arith) in
     let all = put-front (put-more most (c .put-text .ensures) (omega arith)) in
-    record { answered = (c .if-buffer-lt-SHORTEST-BUFFER .left, all .0, all .1); short = omega (arith, all .0) }
+    record { text = all .1; past = all .0; short = omega (arith, all .0) }
