@@ -1,8 +1,9 @@
 -- What a catalogue means, and how a call changes it.
 -- subjects-in, tables-in: the meaning. Enrolled: one subject more and nothing else. Tabled: one table more and nothing else.
+-- Vacant, Fitting: where a subject or a table may be put.
 use mathlib.Core.Path.{_≡_}
 use mathlib.Core.Bool.{true}
-use Prim.Native.Nat.{ℕ, _≤_}
+use Prim.Native.Nat.{ℕ, _≤_, _<_}
 use lib.ListN.{getD}
 use Rattle.std.specs.declared.option.Option.the-variants.{None}
 use Rattle.register.specs.declared.catalogue.Catalogue.{Catalogue}
@@ -28,9 +29,16 @@ pub record Tabled (t : ℕ) (r : Table) (c c′ : Catalogue) : Type 0 where
   pub subjects : subjects-in c′ ≡ subjects-in c
   pub tables : tables-in c′ ≡ made t r (tables-in c)
 
+-- nobody has the number n, which is a subject's
+pub record Vacant (n : ℕ) (c : Catalogue) : Type 0 where
+  pub some : 0 < n
+  pub within : n < 256
+  pub free : getD (c .subjects) n None ≡ None
+
 -- record r may stand under t: nothing stands there, its owner is a person, and it names at most 8 standing tables,
 -- rising, of a level below its own, which is at most 7
 pub record Fitting (t : ℕ) (r : TableRecord) (c : Catalogue) : Type 0 where
+  pub within : t < 128
   pub free : getD (c .tables) t None ≡ None
   pub owned : is-person (getD (c .subjects) (r .owner) None) ≡ true
   pub few : r .count ≤ 8

@@ -31,6 +31,13 @@ impl Catalogue {
         ensures value { λ r. ⌜ mapped table-of r ≡ tables-in (now (self .entry)) t ⌝ }
         ensures level { λ r. ⌜ BySome r (Unit {0}) (λ x. Level (tables-in (now (self .entry))) t (x .level)) ⌝ }
     {
+        self.row(t)
+    }
+
+    fn row(&self, t: u16) -> Option<TableRecord>
+        ensures row { λ r. ⌜ r ≡ getD (now (self .entry) .tables) t None ⌝ }
+        ensures level { λ r. ⌜ BySome r (Unit {0}) (λ x. Level (tables-in (now (self .entry))) t (x .level)) ⌝ }
+    {
         if t < 128 {
             self.tables[t as usize]
         } else {
@@ -69,11 +76,21 @@ impl Catalogue {
     pub fn has_person(&self) -> bool
         ensures { λ r. ⌜ Decides r ((n : ℕ) × IsPerson (subjects-in (now (self .entry))) n) ⌝ }
     {
+        match self.first_person() {
+            Some(_) => true,
+            None => false,
+        }
+    }
+
+    // The person with the lowest number.
+    fn first_person(&self) -> Option<u16>
+        ensures { λ r. ⌜ BySome r ((n : ℕ) → IsPerson (subjects-in (now (self .entry))) n → ⊥) (λ n. IsPerson (subjects-in (now (self .entry))) n) ⌝ }
+    {
         for n in 0..256 {
             if self.is_person(n) {
-                return true;
+                return Some(n);
             }
         }
-        false
+        None
     }
 }

@@ -2,11 +2,12 @@
 ghost use mathlib.Core.Path.{_≡_};
 ghost use mathlib.Core.Bool.{true};
 ghost use mathlib.Core.List.{[]};
-ghost use Prim.Native.Nat.{_<_, _≤_};
+ghost use Prim.Native.Nat.{_≤_};
 ghost use lib.ListN.{length, getD};
 ghost use Rattle.std.specs.declared.option.Option.the-variants.{None};
 ghost use Rattle.std.specs.Orderings.{Decides};
 ghost use Rattle.std.specs.Results.{Cases};
+ghost use Rattle.std.specs.Vec.{made};
 ghost use Rattle.std.specs.shelf.Lists.{All};
 ghost use Rattle.register.specs.Catalogue.{subjects-in, tables-in, Fitting, Tabled};
 ghost use Rattle.register.specs.Rows.{table-of, names-of, level-at, level-over, rise};
@@ -24,6 +25,27 @@ impl Catalogue {
         ensures verdict { λ r. ⌜ First (base-checks (subjects-in (now (self .entry))) (tables-in (now (self .entry))) i t) (fault-of r) ⌝ }
         ensures effect { λ r. ⌜ Cases r (λ _. Tabled t (record { owner = i; names = [] }) (now (self .entry)) (now (self .exit))) (λ _. now (self .exit) ≡ now (self .entry)) ⌝ }
     {
+        let table = self.new_base(i, t)?;
+        self.add(t, table);
+        Ok(())
+    }
+
+    // Makes view t with owner i, naming these tables.
+    pub fn view(&mut self, i: u16, t: u16, names: &[u16]) -> Result<(), RegisterFault>
+        ensures verdict { λ r. ⌜ First (view-checks (subjects-in (now (self .entry))) (tables-in (now (self .entry))) i t (now (names .entry))) (fault-of r) ⌝ }
+        ensures effect { λ r. ⌜ Cases r (λ _. Tabled t (record { owner = i; names = now (names .entry) }) (now (self .entry)) (now (self .exit))) (λ _. now (self .exit) ≡ now (self .entry)) ⌝ }
+    {
+        let table = self.new_view(i, t, names)?;
+        self.add(t, table);
+        Ok(())
+    }
+
+    // The record of a base table that may be put under t.
+    fn new_base(&self, i: u16, t: u16) -> Result<TableRecord, RegisterFault>
+        ensures verdict { λ r. ⌜ First (base-checks (subjects-in (now (self .entry))) (tables-in (now (self .entry))) i t) (fault-of r) ⌝ }
+        ensures table { λ r. ⌜ made r (λ x. table-of x ≡ record { owner = i; names = [] }) ⌝ }
+        ensures fitting { λ r. ⌜ made r (λ x. Fitting t x (now (self .entry))) ⌝ }
+    {
         if i > 255 || t > 127 {
             return Err(RegisterFault::BadNumber);
         }
@@ -36,20 +58,19 @@ impl Catalogue {
         if self.stands(t) {
             return Err(RegisterFault::Taken);
         }
-        let record = TableRecord {
+        Ok(TableRecord {
             owner: i as u8,
             level: 0,
             count: 0,
             names: [0; 8],
-        };
-        self.add(t, record);
-        Ok(())
+        })
     }
 
-    // Makes view t with owner i, naming these tables.
-    pub fn view(&mut self, i: u16, t: u16, names: &[u16]) -> Result<(), RegisterFault>
+    // The record of a view that may be put under t.
+    fn new_view(&self, i: u16, t: u16, names: &[u16]) -> Result<TableRecord, RegisterFault>
         ensures verdict { λ r. ⌜ First (view-checks (subjects-in (now (self .entry))) (tables-in (now (self .entry))) i t (now (names .entry))) (fault-of r) ⌝ }
-        ensures effect { λ r. ⌜ Cases r (λ _. Tabled t (record { owner = i; names = now (names .entry) }) (now (self .entry)) (now (self .exit))) (λ _. now (self .exit) ≡ now (self .entry)) ⌝ }
+        ensures table { λ r. ⌜ made r (λ x. table-of x ≡ record { owner = i; names = now (names .entry) }) ⌝ }
+        ensures fitting { λ r. ⌜ made r (λ x. Fitting t x (now (self .entry))) ⌝ }
     {
         if i > 255 || t > 127 || !all_tables(names) {
             return Err(RegisterFault::BadNumber);
@@ -70,8 +91,7 @@ impl Catalogue {
             return Err(RegisterFault::MakeUp);
         }
         let level = self.level_over(names);
-        self.add(t, view_record(i as u8, level, names));
-        Ok(())
+        Ok(view_record(i as u8, level, names))
     }
 
     // An issuer other than the office who is no registered person.
@@ -138,8 +158,7 @@ impl Catalogue {
 
     // Puts a table under a number where none stands.
     fn add(&mut self, t: u16, table: TableRecord)
-        requires within { ⌜ t < 128 ⌝ }
-        requires fitting { ⌜ Fitting t table (now self) ⌝ }
+        requires { ⌜ Fitting t table (now self) ⌝ }
         ensures { λ _. ⌜ Tabled t (table-of table) (now (self .entry)) (now (self .exit)) ⌝ }
     {
         self.tables[t as usize] = Some(table);

@@ -1,23 +1,5 @@
-use mathlib.Core.Path.{sym, _∙_}
-use mathlib.Core.Logic.{⊎-elim}
-use native.Mathlib.Omega.{arith}
-use borrow.Author.Count.{below-more}
-use Rattle.std.specs.declared.option.Option.the-variants.{None}
-use Rattle.std.proofs.shelf.Lists.{getD-past}
-use Rattle.std.proofs.shelf.Tests.{false≢true, cases-lt}
-use Rattle.std.proofs.shelf.Ways.{not-from-decides}
-use Rattle.register.proofs.Sound.{none-some}
+use Rattle.std.proofs.shelf.Tests.{false≢true}
 use Rattle.register.proofs.catalogue.Catalogue.has_person.Needs as need
 
-pub loop-n-again : need.loop-n-again
-loop-n-again c = below-more _ _ (c .loop-n .inv) (not-from-decides (c .is-person .result) (c .is-person .ensures) (c .if-is-person .left))
-
-pub returns : need.returns
-returns c =
-    let s = c .args .self .now in (
-      λ e. absurd (false≢true e),
-      λ someone. absurd (⊎-elim
-          (λ below. c .loop-n .inv (someone .0) (omega arith) (someone .1))
-          (λ past. none-some (sym (getD-past (s .subjects) (someone .0) None (omega (arith, s .wide))) ∙ someone .1 .1))
-          (cases-lt (someone .0) 256)),
-    )
+pub returns-in-None : need.returns-in-None
+returns-in-None c = (λ e. absurd (false≢true e), λ someone. absurd (c .in-None .ensures tt (someone .0) (someone .1)))
