@@ -62,8 +62,8 @@ impl SettingUp {
         ensures verdict { λ r. ⌜ First (open-checks (subjects-in (now (catalogue .entry)))) (refusal r) ⌝ }
         ensures count { λ r. ⌜ Cases r (λ s. s .carried ≡ counted (self .carried)) (λ back. back .0 .carried ≡ self .carried) ⌝ }
     {
-        if !catalogue.has_person() {
-            return Err((self, RegisterFault::Nobody));
+        if let Err(fault) = may_open(catalogue) {
+            return Err((self, fault));
         }
         let SettingUp { carried } = self;
         Ok(Open {
@@ -119,4 +119,14 @@ impl Closed {
         let Closed { carried } = self;
         *carried
     }
+}
+
+// A sitting without a person cannot be opened.
+fn may_open(catalogue: &Catalogue) -> Result<(), RegisterFault>
+    ensures { λ r. ⌜ First (open-checks (subjects-in (now (catalogue .entry)))) (fault-of r) ⌝ }
+{
+    if !catalogue.has_person() {
+        return Err(RegisterFault::Nobody);
+    }
+    Ok(())
 }
