@@ -1,0 +1,4 @@
+pub mod Pairs
+pub mod Places
+pub mod Refusals
+pub mod Sound

@@ -1,0 +1,8 @@
+// What a roll is, and the two rolls: the pair roll walks its pairs, the reach roll keeps a table.
+mod means;
+mod pair_roll;
+mod search;
+
+pub use means::Roll;
+pub use means::RollMut;
+pub use pair_roll::PairRoll;

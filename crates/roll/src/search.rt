@@ -1,0 +1,31 @@
+// Where a pair stands in a rising list, found by halving.
+use rights::Pair;
+ghost use mathlib.Core.Path.{_≡_};
+ghost use Rattle.rights.specs.Pairs.{RisingPairs};
+ghost use Rattle.roll.specs.Pairs.{before};
+ghost use Rattle.roll.specs.Places.{Place};
+
+// By member, then by group.
+fn precedes(p: Pair, q: Pair) -> bool
+    ensures { λ r. ⌜ r ≡ before p q ⌝ }
+{
+    p.member < q.member || (p.member == q.member && p.group < q.group)
+}
+
+// How many of the pairs come before p: where it stands, or would stand.
+pub(crate) fn place(pairs: &[Pair], p: Pair) -> usize
+    requires { ⌜ RisingPairs (now pairs) ⌝ }
+    ensures { λ r. ⌜ Place (now (pairs .entry)) p r ⌝ }
+{
+    let mut low = 0;
+    let mut high = pairs.len();
+    while low < high {
+        let mid = low + (high - low) / 2;
+        if precedes(pairs[mid], p) {
+            low = mid + 1;
+        } else {
+            high = mid;
+        }
+    }
+    low
+}
