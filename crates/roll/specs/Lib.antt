@@ -2,3 +2,4 @@ pub mod Pairs
 pub mod Places
 pub mod Refusals
 pub mod Sound
+pub mod Walks

@@ -1,6 +1,7 @@
 // What a roll is, and the two rolls: the pair roll walks its pairs, the reach roll keeps a table.
 mod means;
 mod pair_roll;
+mod reached;
 mod search;
 
 pub use means::Roll;
