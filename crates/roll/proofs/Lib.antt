@@ -4,3 +4,6 @@ pub mod Sounds
 pub mod Places
 pub mod Walks
 pub mod Spreads
+pub mod Firsts
+pub mod Keeping
+pub mod Makings

@@ -1,22 +1,16 @@
--- The order of pairs: its test, transitive, one way only; and that a sound list is so in one way.
+-- The order of pairs: its test, transitive, one way only.
 use mathlib.Core.Path.{_≡_, refl, sym, ap, subst, _∙_}
 use mathlib.Core.Bool.{Bool, true, false, _&&_, _||_}
-use mathlib.Core.Logic.{_⊎_, inl, inr, ⊎-elim, ∥∥₁-elim}
-use mathlib.Core.List.{List, [], _∷_}
-use mathlib.Core.HLevel.{Π-prop, ×-prop}
+use mathlib.Core.Logic.{_⊎_, inl, inr, ⊎-elim}
 use Prim.Native.Nat.{ℕ, _<_, _≤_}
-use native.Mathlib.Bridge.{le-prop}
 use native.Mathlib.Omega.{arith}
 use lib.Dec.{eqb, ltb}
 use Rattle.std.specs.Orderings.{Decides}
-use Rattle.std.specs.shelf.Lists.{All}
 use Rattle.std.proofs.shelf.Tests.{cases-eq}
 use Rattle.std.proofs.shelf.Ways.{tells}
 use Rattle.rights.specs.declared.entries.Pair.{Pair}
-use Rattle.rights.specs.Pairs.{pair, Before, Proper, RisingPairs}
-use Rattle.rights.specs.Within.{Loopless}
+use Rattle.rights.specs.Pairs.{pair, Before}
 use Rattle.roll.specs.Pairs.{before, same}
-use Rattle.roll.specs.Sound.{Sound}
 
 pub same-pair : (p q : Pair) → p .member ≡ q .member → p .group ≡ q .group → p ≡ q
 same-pair p q m g = ap (λ x. pair x (p .group)) m ∙ ap (λ x. pair (q .member) x) g
@@ -52,26 +46,3 @@ before-trans p q r h k = grind (arith, tells)
 
 pub before-self : (p : Pair) → before p p ≡ false
 before-self p = grind (arith, tells)
-
-all-prop : (P : Pair → Type 0) → ((p : Pair) → IsProp (P p)) → (ps : List Pair) → IsProp (All P ps)
-all-prop P one [] = λ x y. refl
-all-prop P one (p ∷ ps) = ×-prop (one p) (all-prop P one ps)
-
-rising-prop : (ps : List Pair) → IsProp (RisingPairs ps)
-rising-prop [] = λ x y. refl
-rising-prop (p ∷ ps) = ×-prop (all-prop (Before p) (λ q. ×-prop le-prop (Π-prop (λ _. le-prop))) ps) (rising-prop ps)
-
-proper-prop : (p : Pair) → IsProp (Proper p)
-proper-prop p = ×-prop (×-prop le-prop le-prop) (×-prop le-prop le-prop)
-
-loopless-prop : (ps : List Pair) → IsProp (Loopless ps)
-unfolding Loopless
-loopless-prop ps = Π-prop (λ s. Π-prop (λ _. λ x. absurd x))
-
--- what a roll's type keeps of its pairs, taken out
-pub sound-sure : (ps : List Pair) → ∥ Sound ps ∥₁ → Sound ps
-sound-sure ps h = record {
-  rising = ∥∥₁-elim h (rising-prop ps) (λ s. s .rising);
-  proper = ∥∥₁-elim h (all-prop Proper proper-prop ps) (λ s. s .proper);
-  loopless = ∥∥₁-elim h (loopless-prop ps) (λ s. s .loopless);
-}

@@ -11,10 +11,11 @@ use Rattle.std.proofs.shelf.Elements.{all-getD}
 use Rattle.std.proofs.shelf.Lists.{getD-default}
 use Rattle.std.proofs.shelf.Tests.{cases-bool, cases-lt, cases-eq, both-ways}
 use Rattle.rights.specs.declared.entries.Pair.{Pair}
+use Rattle.rights.specs.Lists.{In}
 use Rattle.rights.specs.Pairs.{Before, RisingPairs}
 use Rattle.roll.specs.Pairs.{before}
 use Rattle.roll.specs.Places.{Place}
-use Rattle.roll.proofs.Orders.{before-so, before-trans}
+use Rattle.roll.proofs.Orders.{before-self, before-so, before-trans}
 
 pub rising-at : (ps : List Pair) → RisingPairs ps → (i j : ℕ) (d : Pair) → i < j → j < length ps → Before (getD ps i d) (getD ps j d)
 rising-at [] up i j d l h = absurd (omega arith)
@@ -64,3 +65,30 @@ module _ (ps : List Pair) (p : Pair) where
 
   pub halving-all : (low high : ℕ) → Halving ps p low high → high ≤ low → Place ps p low
   halving-all low high h done = let e : high ≡ low = omega (arith, h .order) in record { inside = omega (arith, h .inside); below = h .below; above = subst (λ x. Every (λ q. before q p ≡ false) ps x (length ps)) e (h .above) }
+
+-- what stands in a list stands at a place, and the other way
+pub place-of : (ps : List Pair) (x d : Pair) → In x ps → (j : ℕ) × (j < length ps) × (getD ps j d ≡ x)
+place-of [] x d i = absurd i
+place-of (p ∷ ps) x d (inl e) = (0, omega arith, sym e)
+place-of (p ∷ ps) x d (inr i) = let o = place-of ps x d i in (suc (o .0), omega (arith, o .1), o .2)
+
+pub in-at : (ps : List Pair) (j : ℕ) (d : Pair) → j < length ps → In (getD ps j d) ps
+in-at [] j d l = absurd (omega arith)
+in-at (p ∷ ps) zero d l = inl refl
+in-at (p ∷ ps) (suc j) d l = inr (in-at ps j d (omega arith))
+
+module _ (ps : List Pair) (p : Pair) (k : ℕ) (up : RisingPairs ps) (here : Place ps p k) where
+  -- what stands in a rising list stands in its place
+  pub stands-there : (d : Pair) → In p ps → (k < length ps) × (getD ps k d ≡ p)
+  stands-there d i =
+    let o = place-of ps p d i in
+    ⊎-elim
+    (λ lt. absurd (both-ways (before p p) (before-self p) (subst (λ x. before x p ≡ true) (o .2) (here .below (o .0) d (omega arith) lt))))
+    (λ ge. ⊎-elim
+      (λ lt. absurd (both-ways (before (getD ps k d) p) (here .above k d (omega arith) (omega (arith, o .1))) (subst (λ x. before (getD ps k d) x ≡ true) (o .2) (before-so (getD ps k d) (getD ps (o .0) d) (rising-at ps up k (o .0) d lt (o .1))))))
+      (λ le. let e : o .0 ≡ k = omega arith in (omega (arith, o .1), ap (λ x. getD ps x d) (sym e) ∙ o .2))
+      (cases-lt k (o .0)))
+    (cases-lt (o .0) k)
+
+  pub stands-so : (d : Pair) → k < length ps → getD ps k d ≡ p → In p ps
+  stands-so d l e = subst (λ x. In x ps) e (in-at ps k d l)

@@ -18,19 +18,8 @@ use Rattle.roll.specs.Pairs.{before}
 use Rattle.roll.specs.Places.{Place}
 use Rattle.roll.specs.Walks.{Marked, Listed, Spread, Reaches}
 use Rattle.roll.proofs.Orders.{same-pair}
-use Rattle.roll.proofs.Places.{rising-at}
+use Rattle.roll.proofs.Places.{rising-at, place-of, in-at}
 use Rattle.roll.proofs.Walks.{marked-still, marked-before}
-
--- what stands in a list stands at a place, and the other way
-pub place-of : (ps : List Pair) (x d : Pair) → In x ps → (j : ℕ) × (j < length ps) × (getD ps j d ≡ x)
-place-of [] x d i = absurd i
-place-of (p ∷ ps) x d (inl e) = (0, omega arith, sym e)
-place-of (p ∷ ps) x d (inr i) = let o = place-of ps x d i in (suc (o .0), omega (arith, o .1), o .2)
-
-pub in-at : (ps : List Pair) (j : ℕ) (d : Pair) → j < length ps → In (getD ps j d) ps
-in-at [] j d l = absurd (omega arith)
-in-at (p ∷ ps) zero d l = inl refl
-in-at (p ∷ ps) (suc j) d l = inr (in-at ps j d (omega arith))
 
 -- the first found stay where they are
 pub record Keeps (oldf newf : List ℕ) (oldn newn : ℕ) : Type 0 where

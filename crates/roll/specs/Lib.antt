@@ -1,5 +1,7 @@
+pub mod Kept
 pub mod Pairs
 pub mod Places
 pub mod Refusals
 pub mod Sound
+pub mod Sure
 pub mod Walks

@@ -4,9 +4,10 @@ use mathlib.Core.Logic.{_⊎_}
 use mathlib.Core.List.{List, [], _∷_}
 use Prim.Native.Nat.{ℕ, _<_}
 use lib.ListN.{length}
+use Rattle.std.specs.declared.option.Option.the-variants.{Some, None}
 use Rattle.rights.specs.declared.entries.Pair.{Pair}
 use Rattle.rights.specs.declared.faults.RollFault.{RollFault}
-use Rattle.rights.specs.Checks.{Check, refuse}
+use Rattle.rights.specs.Checks.{Check, First, refuse}
 use Rattle.rights.specs.Lists.{In}
 use Rattle.rights.specs.Numbers.{SubjectNumber}
 use Rattle.rights.specs.Pairs.{pair}
@@ -40,3 +41,8 @@ make-checks places ceiling =
   refuse RollFault.ShortList (places < ceiling)
   ∷ refuse RollFault.BadNumber ((ceiling ≡ 0) ⊎ (2048 < ceiling))
   ∷ []
+
+-- the ceiling of a roll as it was made: the one wanted, or 0 where the check refuses
+pub record Granted (places wanted ceiling : ℕ) : Type 0 where
+  pub fits : First (make-checks places wanted) None → ceiling ≡ wanted
+  pub refused : (f : RollFault) → First (make-checks places wanted) (Some f) → ceiling ≡ 0

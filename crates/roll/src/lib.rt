@@ -1,5 +1,7 @@
 // What a roll is, and the two rolls: the pair roll walks its pairs, the reach roll keeps a table.
+mod making;
 mod means;
+mod numbers;
 mod pair_roll;
 mod reached;
 mod search;
@@ -7,3 +9,4 @@ mod search;
 pub use means::Roll;
 pub use means::RollMut;
 pub use pair_roll::PairRoll;
+pub use pair_roll::tells::PairRollTells;

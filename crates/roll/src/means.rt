@@ -3,7 +3,7 @@ use rights::RollFault;
 ghost use mathlib.Core.Path.{_≡_};
 ghost use mathlib.Core.Bool.{cond};
 ghost use mathlib.Core.List.{List};
-ghost use Prim.Native.Nat.{ℕ, _≤_};
+ghost use Prim.Native.Nat.{ℕ};
 ghost use lib.ListN.{length};
 ghost use Rattle.std.specs.Orderings.{Decides};
 ghost use Rattle.std.specs.Results.{isOk};
@@ -13,7 +13,7 @@ ghost use Rattle.rights.specs.Lists.{In};
 ghost use Rattle.rights.specs.Pairs.{pair};
 ghost use Rattle.roll.specs.Pairs.{added, dropped};
 ghost use Rattle.roll.specs.Refusals.{WithinRoll, put-checks, take-checks};
-ghost use Rattle.roll.specs.Sound.{Sound};
+ghost use Rattle.roll.specs.Sound.{Kept};
 
 // The half that only tells. Every roll is such a rising list of pairs, whatever it keeps.
 pub trait Roll {
@@ -21,11 +21,8 @@ pub trait Roll {
 
     ghost ceiling: { Self → ℕ };
 
-    law sound: { (x : Self) → Sound (pairs x) };
-
-    law few: { (x : Self) → length (pairs x) ≤ ceiling x };
-
-    law limit: { (x : Self) → ceiling x ≤ 2048 };
+    // What every roll keeps.
+    ghost laws: { (x : Self) → Kept (pairs x) (ceiling x) };
 
     fn count(&self) -> usize
         ensures { λ r. ⌜ r ≡ length (pairs (now (self .entry))) ⌝ };

@@ -1,4 +1,7 @@
 // The pair roll: the pairs themselves, rising, in the caller's list.
+mod makes;
+pub mod tells;
+
 use rights::Pair;
 ghost use Prim.Native.Nat.{_≤_};
 ghost use lib.ListN.{length, take};

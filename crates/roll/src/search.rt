@@ -1,6 +1,8 @@
 // Where a pair stands in a rising list, found by halving.
 use rights::Pair;
 ghost use mathlib.Core.Path.{_≡_};
+ghost use Rattle.std.specs.Orderings.{Decides};
+ghost use Rattle.rights.specs.Lists.{In};
 ghost use Rattle.rights.specs.Pairs.{RisingPairs};
 ghost use Rattle.roll.specs.Pairs.{before};
 ghost use Rattle.roll.specs.Places.{Place};
@@ -10,6 +12,12 @@ fn precedes(p: Pair, q: Pair) -> bool
     ensures { λ r. ⌜ r ≡ before p q ⌝ }
 {
     p.member < q.member || (p.member == q.member && p.group < q.group)
+}
+
+fn equal(p: Pair, q: Pair) -> bool
+    ensures { λ r. ⌜ Decides r (p ≡ q) ⌝ }
+{
+    p.member == q.member && p.group == q.group
 }
 
 // How many of the pairs come before p: where it stands, or would stand.
@@ -28,4 +36,13 @@ pub(crate) fn place(pairs: &[Pair], p: Pair) -> usize
         }
     }
     low
+}
+
+// Whether p is one of the pairs.
+pub(crate) fn holds(pairs: &[Pair], p: Pair) -> bool
+    requires { ⌜ RisingPairs (now pairs) ⌝ }
+    ensures { λ r. ⌜ Decides r (In p (now (pairs .entry))) ⌝ }
+{
+    let k = place(pairs, p);
+    k < pairs.len() && equal(pairs[k], p)
 }
