@@ -7,3 +7,5 @@ pub mod Spreads
 pub mod Firsts
 pub mod Keeping
 pub mod Makings
+pub mod Moves
+pub mod Gaps

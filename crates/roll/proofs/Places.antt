@@ -6,6 +6,10 @@ use mathlib.Core.List.{List, [], _∷_}
 use Prim.Native.Nat.{ℕ, zero, suc, _+_, _<_, _≤_}
 use native.Mathlib.Omega.{arith}
 use lib.ListN.{length, getD}
+use Rattle.std.specs.declared.option.Option.{Option}
+use Rattle.std.specs.declared.option.Option.the-variants.{Some, None}
+use Rattle.std.specs.Options.{isSome}
+use Rattle.std.specs.Orderings.{Decides}
 use Rattle.std.specs.shelf.Lists.{Every}
 use Rattle.std.proofs.shelf.Elements.{all-getD}
 use Rattle.std.proofs.shelf.Lists.{getD-default}
@@ -14,7 +18,7 @@ use Rattle.rights.specs.declared.entries.Pair.{Pair}
 use Rattle.rights.specs.Lists.{In}
 use Rattle.rights.specs.Pairs.{Before, RisingPairs}
 use Rattle.roll.specs.Pairs.{before}
-use Rattle.roll.specs.Places.{Place}
+use Rattle.roll.specs.Places.{Place, Found}
 use Rattle.roll.proofs.Orders.{before-self, before-so, before-trans}
 
 pub rising-at : (ps : List Pair) → RisingPairs ps → (i j : ℕ) (d : Pair) → i < j → j < length ps → Before (getD ps i d) (getD ps j d)
@@ -92,3 +96,8 @@ module _ (ps : List Pair) (p : Pair) (k : ℕ) (up : RisingPairs ps) (here : Pla
 
   pub stands-so : (d : Pair) → k < length ps → getD ps k d ≡ p → In p ps
   stands-so d l e = subst (λ x. In x ps) e (in-at ps k d l)
+
+-- the place found tells whether the pair stands
+pub found-decides : (ps : List Pair) (p : Pair) (o : Option ℕ) (r : Bool) → Found ps p o → r ≡ isSome o → Decides r (In p ps)
+found-decides ps p None r f e = (λ t. absurd (both-ways r e t), λ i. absurd (f i))
+found-decides ps p (Some k) r f e = (λ _. subst (λ x. In x ps) (f .1 p) (in-at ps k p (f .0)), λ _. e)

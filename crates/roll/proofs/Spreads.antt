@@ -120,7 +120,7 @@ module _ (ps : List Pair) (s : ℕ) where
         same i li = sym (getD-take n f i 0 li) ∙ ap (λ x. getD x i 0) (keeps .found) ∙ getD-take n found i 0 li
 
     pub walking-all : n ≤ next → Reaches ps s marks
-    walking-all done h l = (now .sound h, λ w. within-keeps ps (Marked marks) on s h w (now .start))
+    walking-all done h = (now .sound h, λ w. within-keeps ps (Marked marks) on s h w (now .start))
       where
         on : (a b : ℕ) → In (pair a b) ps → Marked marks a → Marked marks b
         on a b i e = ∥∥₁-elim listed (Bool-set _ _) (λ x. let o = x .each a e in now .closed (o .0) (omega (arith, o .1)) b (subst (λ y. In (pair y b) ps) (sym (o .2)) i))

@@ -10,7 +10,7 @@ use Rattle.rights.specs.declared.faults.RollFault.{RollFault}
 use Rattle.rights.specs.Checks.{Check, First, refuse}
 use Rattle.rights.specs.Lists.{In}
 use Rattle.rights.specs.Numbers.{SubjectNumber}
-use Rattle.rights.specs.Pairs.{pair}
+use Rattle.rights.specs.Pairs.{pair, Proper}
 use Rattle.rights.specs.Within.{Within}
 
 -- both are numbers of subjects
@@ -20,6 +20,31 @@ BothSubjects m g = SubjectNumber m × SubjectNumber g
 -- a roll's within: out of range it is never so, though every path from s to s is s alone
 abbrev pub WithinRoll : List Pair → ℕ → ℕ → Type 0
 WithinRoll pairs s g = SubjectNumber s × SubjectNumber g × Within pairs s g
+
+-- the first two checks of a put, which look at the pair alone
+abbrev pub fresh-checks : List Pair → ℕ → ℕ → List (Check RollFault)
+fresh-checks pairs m g =
+  refuse RollFault.BadNumber (BothSubjects m g → ⊥)
+  ∷ refuse RollFault.Taken (In (pair m g) pairs)
+  ∷ []
+
+-- the checks of a put but the last
+abbrev pub loop-checks : List Pair → ℕ → ℕ → List (Check RollFault)
+loop-checks pairs m g =
+  refuse RollFault.BadNumber (BothSubjects m g → ⊥)
+  ∷ refuse RollFault.Taken (In (pair m g) pairs)
+  ∷ refuse RollFault.Loop (Within pairs g m)
+  ∷ []
+
+-- the last check of a put
+abbrev pub full-checks : List Pair → ℕ → List (Check RollFault)
+full-checks pairs ceiling = refuse RollFault.Full (length pairs ≡ ceiling) ∷ []
+
+-- a pair that may be added: in range, new, and without a loop
+pub record Addable (pairs : List Pair) (p : Pair) : Type 0 where
+  pub proper : Proper p
+  pub new : In p pairs → ⊥
+  pub apart : Within pairs (p .group) (p .member) → ⊥
 
 abbrev pub put-checks : List Pair → ℕ → ℕ → ℕ → List (Check RollFault)
 put-checks pairs ceiling m g =

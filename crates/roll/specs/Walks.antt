@@ -33,4 +33,4 @@ pub record Spread (ps : List Pair) (m : ℕ) (old new : List Bool) : Type 0 wher
 
 -- marked is all that s is within, and nothing else
 abbrev pub Reaches : List Pair → ℕ → List Bool → Type 0
-Reaches ps s marks = (h : ℕ) → h < 256 → Decides (getD marks h false) (Within ps s h)
+Reaches ps s marks = (h : ℕ) → Decides (getD marks h false) (Within ps s h)

@@ -1,4 +1,5 @@
 // What a roll is, and the two rolls: the pair roll walks its pairs, the reach roll keeps a table.
+mod fresh;
 mod making;
 mod means;
 mod numbers;
@@ -9,4 +10,5 @@ mod search;
 pub use means::Roll;
 pub use means::RollMut;
 pub use pair_roll::PairRoll;
+pub use pair_roll::changes::PairRollChanges;
 pub use pair_roll::tells::PairRollTells;

@@ -1,4 +1,6 @@
 // The pair roll: the pairs themselves, rising, in the caller's list.
+pub mod changes;
+mod looks;
 mod makes;
 pub mod tells;
 

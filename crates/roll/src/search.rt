@@ -5,7 +5,7 @@ ghost use Rattle.std.specs.Orderings.{Decides};
 ghost use Rattle.rights.specs.Lists.{In};
 ghost use Rattle.rights.specs.Pairs.{RisingPairs};
 ghost use Rattle.roll.specs.Pairs.{before};
-ghost use Rattle.roll.specs.Places.{Place};
+ghost use Rattle.roll.specs.Places.{Place, Found};
 
 // By member, then by group.
 fn precedes(p: Pair, q: Pair) -> bool
@@ -38,11 +38,23 @@ pub(crate) fn place(pairs: &[Pair], p: Pair) -> usize
     low
 }
 
+// The place where p stands, if it does.
+pub(crate) fn find(pairs: &[Pair], p: Pair) -> Option<usize>
+    requires { ⌜ RisingPairs (now pairs) ⌝ }
+    ensures { λ r. ⌜ Found (now (pairs .entry)) p r ⌝ }
+{
+    let k = place(pairs, p);
+    if k < pairs.len() && equal(pairs[k], p) {
+        Some(k)
+    } else {
+        None
+    }
+}
+
 // Whether p is one of the pairs.
 pub(crate) fn holds(pairs: &[Pair], p: Pair) -> bool
     requires { ⌜ RisingPairs (now pairs) ⌝ }
     ensures { λ r. ⌜ Decides r (In p (now (pairs .entry))) ⌝ }
 {
-    let k = place(pairs, p);
-    k < pairs.len() && equal(pairs[k], p)
+    find(pairs, p).is_some()
 }
