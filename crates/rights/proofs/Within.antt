@@ -92,8 +92,8 @@ module _ (ps : List Pair) (m g : ℕ) where
   pub within-through : (s h : ℕ) → Through ps m g s h → Within (pair m g ∷ ps) s h
   within-through s h (inl w) = within-grows ps (pair m g ∷ ps) (λ _ i. inr i) s h w
   within-through s h (inr v) =
-    within-trans (pair m g ∷ ps) s m h (within-grows ps (pair m g ∷ ps) (λ _ i. inr i) s m (v .0))
-    (within-step (pair m g ∷ ps) m g h (inl refl) (within-grows ps (pair m g ∷ ps) (λ _ i. inr i) g h (v .1)))
+      within-trans (pair m g ∷ ps) s m h (within-grows ps (pair m g ∷ ps) (λ _ i. inr i) s m (v .0))
+      (within-step (pair m g ∷ ps) m g h (inl refl) (within-grows ps (pair m g ∷ ps) (λ _ i. inr i) g h (v .1)))
 
 abbrev pub Or-not : Type 0 → Type 0
 Or-not P = P ⊎ (P → ⊥)

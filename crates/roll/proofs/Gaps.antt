@@ -40,13 +40,13 @@ place-added ps p k at new = added-at p ps k below above
   where
     below : All (λ q. before q p ≡ true) (take k ps)
     below = all-from-getD (λ q. before q p ≡ true) (take k ps) p (λ i l.
-      let h : i < k = omega (arith, length-take-le k ps (at .inside)) in
-      subst (λ x. before x p ≡ true) (sym (getD-take k ps i p h)) (at .below i p (omega arith) h))
+        let h : i < k = omega (arith, length-take-le k ps (at .inside)) in
+        subst (λ x. before x p ≡ true) (sym (getD-take k ps i p h)) (at .below i p (omega arith) h))
 
     above : All (λ q. before p q ≡ true) (drop k ps)
     above = all-from-getD (λ q. before p q ≡ true) (drop k ps) p (λ i l.
-      let h : k + i < length ps = omega (arith, length-drop k ps) in
-      subst (λ x. before p x ≡ true) (sym (getD-drop k ps i p))
+        let h : k + i < length ps = omega (arith, length-drop k ps) in
+        subst (λ x. before p x ≡ true) (sym (getD-drop k ps i p))
         (before-other p (getD ps (k + i) p) (at .above (k + i) p (omega arith) h) (λ e. new (subst (λ x. In x ps) e (in-at ps (k + i) p h)))))
 
 module _ (xs : List Pair) (n : ℕ) (list : List Pair) (i : ℕ) (moved : Pair) (gap : Gap xs n list i moved) where
@@ -75,11 +75,11 @@ module _ (xs : List Pair) (n : ℕ) (list : List Pair) (i : ℕ) (moved : Pair) 
   -- at the end of the list the last place is filled
   pub gap-filled : i ≡ n → n < length list → take (n + 1) (set list n moved) ≡ xs
   gap-filled e l =
-    take-more-set list n moved l
-    ∙ ap (λ t. t ++ moved ∷ []) (gap .body ∙ ap (removed xs) e ∙ removed-last xs n (gap .long))
-    ∙ ap (λ t. take n xs ++ t ∷ []) (gap .carry ∙ ap (λ x. getD xs x moved) e)
-    ∙ sym (take-more xs n moved (omega (arith, gap .long)))
-    ∙ take-all (n + 1) xs (omega (arith, gap .long))
+      take-more-set list n moved l
+      ∙ ap (λ t. t ++ moved ∷ []) (gap .body ∙ ap (removed xs) e ∙ removed-last xs n (gap .long))
+      ∙ ap (λ t. take n xs ++ t ∷ []) (gap .carry ∙ ap (λ x. getD xs x moved) e)
+      ∙ sym (take-more xs n moved (omega (arith, gap .long)))
+      ∙ take-all (n + 1) xs (omega (arith, gap .long))
 
 -- before the first move of a put
 pub gap-put : (ps list : List Pair) (n k : ℕ) (p : Pair) → take n list ≡ ps → length ps ≡ n → Place ps p k → (In p ps → ⊥) → Gap (added p ps) n list k p

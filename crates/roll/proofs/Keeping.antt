@@ -1,29 +1,18 @@
--- What a pair roll's type keeps of its pairs.
+-- What a store holds, in the forms that its code asks for.
 use mathlib.Core.Path.{_≡_, sym, subst}
 use Prim.Native.Nat.{_+_, _-_, _<_}
 use native.Mathlib.Nat.{sub-zero}
 use native.Mathlib.Omega.{arith}
 use lib.ListN.{length, take}
-use Rattle.std.proofs.shelf.Lists.{length-take-le}
 use denote.Ref.{now}
+use Rattle.std.proofs.shelf.Lists.{length-take-le}
 use Rattle.rights.specs.Pairs.{RisingPairs}
-use Rattle.roll.specs.declared.pair_roll.PairRoll.{PairRoll}
-use Rattle.roll.specs.Kept.{kept, pair-laws}
-use Rattle.roll.specs.Sound.{Sound}
+use Rattle.roll.specs.declared.store.Store.{Store}
+use Rattle.roll.specs.Kept.{stored, Held}
 
-pub sound-kept : (x : PairRoll) → Sound (kept x)
-sound-kept x = pair-laws x .sound
+-- the part of the list that the code lends
+pub rising-part : (x : Store) → Held x → RisingPairs (take (x .count - 0) (now (x .list)))
+rising-part x h = let up = h .sound .rising in rw sub-zero up
 
--- the same of the part of the list that the code lends
-pub part-kept : (x : PairRoll) → take (x .count - 0) (now (x .list)) ≡ kept x
-part-kept x = rw sub-zero
-
-pub rising-part : (x : PairRoll) → RisingPairs (take (x .count - 0) (now (x .list)))
-rising-part x = subst RisingPairs (sym (part-kept x)) (sound-kept x .rising)
-
-pub length-kept : (x : PairRoll) → length (kept x) ≡ x .count
-length-kept x = length-take-le (x .count) (now (x .list)) (omega (arith, x .few, x .room))
-
--- the same where the count is lowered first
-pub sound-lowered : (x : PairRoll) → 0 < x .count → Sound (take (x .count - 1 + 1) (now (x .list)))
-sound-lowered x l = let e : x .count ≡ x .count - 1 + 1 = omega arith in subst (λ n. Sound (take n (now (x .list)))) e (sound-kept x)
+pub length-stored : (x : Store) → Held x → length (stored x) ≡ x .count
+length-stored x h = length-take-le (x .count) (now (x .list)) (omega (arith, h .few, h .room))

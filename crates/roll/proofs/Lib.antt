@@ -5,7 +5,11 @@ pub mod Places
 pub mod Walks
 pub mod Spreads
 pub mod Firsts
-pub mod Keeping
 pub mod Makings
 pub mod Moves
 pub mod Gaps
+pub mod Keeping
+pub mod Puts
+pub mod Sweeps
+pub mod Rows
+pub mod Currents

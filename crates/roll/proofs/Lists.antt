@@ -33,28 +33,28 @@ module _ (p : Pair) where
   unfolding added
   in-added [] x i = i
   in-added (q ∷ qs) x i =
-    elim (before p q) as (λ b. In x (cond b (p ∷ q ∷ qs) (q ∷ added p qs)) → (x ≡ p) ⊎ In x (q ∷ qs)) [
-      true ↦ λ j. j
-    | false ↦ ⊎-elim (λ e. inr (inl e)) (λ j. ⊎-elim inl (λ k. inr (inr k)) (in-added qs x j))
-    ] i
+      elim (before p q) as (λ b. In x (cond b (p ∷ q ∷ qs) (q ∷ added p qs)) → (x ≡ p) ⊎ In x (q ∷ qs)) [
+        | true ↦ λ j. j
+        | false ↦ ⊎-elim (λ e. inr (inl e)) (λ j. ⊎-elim inl (λ k. inr (inr k)) (in-added qs x j))
+      ] i
 
   pub added-in : (ps : List Pair) (x : Pair) → (x ≡ p) ⊎ In x ps → In x (added p ps)
   unfolding added
   added-in [] x i = i
   added-in (q ∷ qs) x i =
-    elim (before p q) as (λ b. In x (cond b (p ∷ q ∷ qs) (q ∷ added p qs))) [
-      true ↦ i
-    | false ↦ ⊎-elim (λ e. inr (added-in qs x (inl e))) (⊎-elim inl (λ j. inr (added-in qs x (inr j)))) i
-    ]
+      elim (before p q) as (λ b. In x (cond b (p ∷ q ∷ qs) (q ∷ added p qs))) [
+        | true ↦ i
+        | false ↦ ⊎-elim (λ e. inr (added-in qs x (inl e))) (⊎-elim inl (λ j. inr (added-in qs x (inr j)))) i
+      ]
 
   pub length-added : (ps : List Pair) → length (added p ps) ≡ length ps + 1
   unfolding added
   length-added [] = refl
   length-added (q ∷ qs) =
-    elim (before p q) as (λ b. length (cond b (p ∷ q ∷ qs) (q ∷ added p qs)) ≡ length (q ∷ qs) + 1) [
-      true ↦ omega arith
-    | false ↦ omega (arith, length-added qs)
-    ]
+      elim (before p q) as (λ b. length (cond b (p ∷ q ∷ qs) (q ∷ added p qs)) ≡ length (q ∷ qs) + 1) [
+        | true ↦ omega arith
+        | false ↦ omega (arith, length-added qs)
+      ]
 
   -- before all that follow k, after all up to k: then k is its place
   pub added-at : (ps : List Pair) (k : ℕ) → All (λ q. before q p ≡ true) (take k ps) → All (λ q. before p q ≡ true) (drop k ps) → added p ps ≡ inserted ps k p
@@ -63,16 +63,16 @@ module _ (p : Pair) where
   added-at [] (suc k) a b = refl
   added-at (q ∷ qs) zero a b = cond-true (before p q) (p ∷ q ∷ qs) (q ∷ added p qs) (b .0)
   added-at (q ∷ qs) (suc k) a b =
-    cond-false (before p q) (p ∷ q ∷ qs) (q ∷ added p qs) (before-not q p (a .0)) ∙ ap (λ l. q ∷ l) (added-at qs k (a .1) b)
+      cond-false (before p q) (p ∷ q ∷ qs) (q ∷ added p qs) (before-not q p (a .0)) ∙ ap (λ l. q ∷ l) (added-at qs k (a .1) b)
 
   pub in-dropped : (ps : List Pair) (x : Pair) → In x (dropped p ps) → In x ps
   unfolding dropped
   in-dropped [] x i = i
   in-dropped (q ∷ qs) x i =
-    elim (same p q) as (λ b. In x (cond b qs (q ∷ dropped p qs)) → In x (q ∷ qs)) [
-      true ↦ inr
-    | false ↦ ⊎-elim inl (λ j. inr (in-dropped qs x j))
-    ] i
+      elim (same p q) as (λ b. In x (cond b qs (q ∷ dropped p qs)) → In x (q ∷ qs)) [
+        | true ↦ inr
+        | false ↦ ⊎-elim inl (λ j. inr (in-dropped qs x j))
+      ] i
 
   pub dropped-in : (ps : List Pair) (x : Pair) → In x ps → (x ≡ p → ⊥) → In x (dropped p ps)
   unfolding dropped
@@ -100,9 +100,9 @@ module _ (p : Pair) where
   dropped-at [] k d up l e = absurd (omega arith)
   dropped-at (q ∷ qs) zero d up l e = cond-true (same p q) qs (q ∷ dropped p qs) (same-so p q (sym e))
   dropped-at (q ∷ qs) (suc k) d up l e =
-    let lt : k < length qs = omega arith in
-    let first : before q p ≡ true = before-so q p (subst (Before q) e (all-getD (Before q) qs k d lt (up .0))) in
-    cond-false (same p q) qs (q ∷ dropped p qs) (before-apart p q first) ∙ ap (λ l. q ∷ l) (dropped-at qs k d (up .1) lt e)
+      let lt : k < length qs = omega arith in
+      let first : before q p ≡ true = before-so q p (subst (Before q) e (all-getD (Before q) qs k d lt (up .0))) in
+      cond-false (same p q) qs (q ∷ dropped p qs) (before-apart p q first) ∙ ap (λ l. q ∷ l) (dropped-at qs k d (up .1) lt e)
 
   pub rising-added : (ps : List Pair) → RisingPairs ps → (In p ps → ⊥) → RisingPairs (added p ps)
   unfolding added
@@ -123,10 +123,10 @@ module _ (p : Pair) where
   unfolding dropped
   rising-dropped [] up = tt
   rising-dropped (q ∷ qs) up =
-    elim (same p q) as (λ b. RisingPairs (cond b qs (q ∷ dropped p qs))) [
-      true ↦ up .1
-    | false ↦ (all-from-in (Before q) (dropped p qs) (λ x i. all-in (Before q) qs x (up .0) (in-dropped qs x i)), rising-dropped qs (up .1))
-    ]
+      elim (same p q) as (λ b. RisingPairs (cond b qs (q ∷ dropped p qs))) [
+        | true ↦ up .1
+        | false ↦ (all-from-in (Before q) (dropped p qs) (λ x i. all-in (Before q) qs x (up .0) (in-dropped qs x i)), rising-dropped qs (up .1))
+      ]
 
 -- the first of a rising list does not stand in the rest
 pub rising-once : (p : Pair) (ps : List Pair) → RisingPairs (p ∷ ps) → In p ps → ⊥
@@ -151,11 +151,11 @@ rising-same (p ∷ ps) (q ∷ qs) up vp there back = ap (λ x. x ∷ ps) first �
   where
     first : p ≡ q
     first =
-      ⊎-elim (λ e. e)
-      (λ i. ⊎-elim sym
+        ⊎-elim (λ e. e)
+        (λ i. ⊎-elim sym
         (λ j. absurd (both-ways (before q p) (before-not p q (before-so p q (all-in (Before p) ps q (up .0) j))) (before-so q p (all-in (Before q) qs p (vp .0) i))))
         (back q (inl refl)))
-      (there p (inl refl))
+        (there p (inl refl))
 
     on : Inside ps qs
     on x i = ⊎-elim (λ e. absurd (rising-once p ps up (subst (λ y. In y ps) (e ∙ sym first) i))) (λ j. j) (there x (inr i))

@@ -60,12 +60,12 @@ module _ (xs : List Pair) (i : ℕ) (fits : i + 1 < length xs) where
 
       at : (k : ℕ) (d : Pair) → k < length (set (removed xs i) i v) → getD (set (removed xs i) i v) k d ≡ getD (removed xs (i + 1)) k d
       at k d h = ⊎-elim
-        (λ q. ap (λ x. getD (set (removed xs i) i v) x d) q ∙ getD-set-same (removed xs i) i v d (omega (arith, l1)) ∙ e ∙ getD-default xs i v d (omega arith) ∙ sym (ap (λ x. getD (removed xs (i + 1)) x d) q ∙ getD-removed-below xs (i + 1) d i (omega arith) fits))
-        (λ q. getD-set-other (removed xs i) i k v d q ∙ ⊎-elim
+          (λ q. ap (λ x. getD (set (removed xs i) i v) x d) q ∙ getD-set-same (removed xs i) i v d (omega (arith, l1)) ∙ e ∙ getD-default xs i v d (omega arith) ∙ sym (ap (λ x. getD (removed xs (i + 1)) x d) q ∙ getD-removed-below xs (i + 1) d i (omega arith) fits))
+          (λ q. getD-set-other (removed xs i) i k v d q ∙ ⊎-elim
           (λ lt. getD-removed-below xs i d k lt (omega arith) ∙ sym (getD-removed-below xs (i + 1) d k (omega arith) fits))
           (λ ge. getD-removed-above xs i d k ge (omega arith) ∙ sym (getD-removed-above xs (i + 1) d k (omega (arith, q)) fits))
           (cases-lt k i))
-        (cases-eq k i)
+          (cases-eq k i)
 
   -- without place i + 1, and then that in the stead of place i
   pub set-removed-down : (v : Pair) → v ≡ getD xs (i + 1) v → set (removed xs (i + 1)) i v ≡ removed xs i
@@ -79,12 +79,12 @@ module _ (xs : List Pair) (i : ℕ) (fits : i + 1 < length xs) where
 
       at : (k : ℕ) (d : Pair) → k < length (set (removed xs (i + 1)) i v) → getD (set (removed xs (i + 1)) i v) k d ≡ getD (removed xs i) k d
       at k d h = ⊎-elim
-        (λ q. ap (λ x. getD (set (removed xs (i + 1)) i v) x d) q ∙ getD-set-same (removed xs (i + 1)) i v d (omega (arith, l2)) ∙ e ∙ getD-default xs (i + 1) v d fits ∙ sym (ap (λ x. getD (removed xs i) x d) q ∙ getD-removed-above xs i d i (omega arith) (omega arith)))
-        (λ q. getD-set-other (removed xs (i + 1)) i k v d q ∙ ⊎-elim
+          (λ q. ap (λ x. getD (set (removed xs (i + 1)) i v) x d) q ∙ getD-set-same (removed xs (i + 1)) i v d (omega (arith, l2)) ∙ e ∙ getD-default xs (i + 1) v d fits ∙ sym (ap (λ x. getD (removed xs i) x d) q ∙ getD-removed-above xs i d i (omega arith) (omega arith)))
+          (λ q. getD-set-other (removed xs (i + 1)) i k v d q ∙ ⊎-elim
           (λ lt. getD-removed-below xs (i + 1) d k (omega arith) fits ∙ sym (getD-removed-below xs i d k lt (omega arith)))
           (λ ge. getD-removed-above xs (i + 1) d k (omega (arith, q)) fits ∙ sym (getD-removed-above xs i d k ge (omega arith)))
           (cases-lt k i))
-        (cases-eq k i)
+          (cases-eq k i)
 
 -- without the last
 pub removed-last : (xs : List Pair) (n : ℕ) → length xs ≡ n + 1 → removed xs n ≡ take n xs

@@ -27,10 +27,10 @@ module _ (p q : Pair) where
 
   pub before-other : before q p ≡ false → (q ≡ p → ⊥) → before p q ≡ true
   before-other h n =
-    ⊎-elim
-    (λ e. ⊎-elim (λ f. absurd (n (same-pair q p e f))) (λ f. grind (arith, tells)) (cases-eq (q .group) (p .group)))
-    (λ e. grind (arith, tells))
-    (cases-eq (q .member) (p .member))
+      ⊎-elim
+      (λ e. ⊎-elim (λ f. absurd (n (same-pair q p e f))) (λ f. grind (arith, tells)) (cases-eq (q .group) (p .group)))
+      (λ e. grind (arith, tells))
+      (cases-eq (q .member) (p .member))
 
   pub same-is : same p q ≡ true → p ≡ q
   same-is h = same-pair p q (grind (arith, tells)) (grind (arith, tells))

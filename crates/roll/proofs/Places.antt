@@ -47,9 +47,9 @@ module _ (ps : List Pair) (p : Pair) where
       order = omega arith;
       inside = old .inside;
       below = λ k d _ h. ⊎-elim
-        (λ l. before-trans (getD ps k d) (getD ps mid d) p (before-so (getD ps k d) (getD ps mid d) (rising-at ps up k mid d l (omega (arith, old .inside)))) (here d))
-        (λ l. let e : k ≡ mid = omega arith in subst (λ x. before (getD ps x d) p ≡ true) (sym e) (here d))
-        (cases-lt k mid);
+          (λ l. before-trans (getD ps k d) (getD ps mid d) p (before-so (getD ps k d) (getD ps mid d) (rising-at ps up k mid d l (omega (arith, old .inside)))) (here d))
+          (λ l. let e : k ≡ mid = omega arith in subst (λ x. before (getD ps x d) p ≡ true) (sym e) (here d))
+          (cases-lt k mid);
       above = old .above;
     }
 
@@ -59,12 +59,12 @@ module _ (ps : List Pair) (p : Pair) where
       inside = omega (arith, old .inside);
       below = old .below;
       above = λ k d l h. ⊎-elim
-        (λ e. absurd (both-ways (before (getD ps mid d) p) (here d) (⊎-elim
+          (λ e. absurd (both-ways (before (getD ps mid d) p) (here d) (⊎-elim
           (λ lt. before-trans (getD ps mid d) (getD ps k d) p (before-so (getD ps mid d) (getD ps k d) (rising-at ps up mid k d lt h)) e)
           (λ ge. let q : k ≡ mid = omega arith in subst (λ x. before (getD ps x d) p ≡ true) q e)
           (cases-lt mid k))))
-        (λ e. e)
-        (cases-bool (before (getD ps k d) p));
+          (λ e. e)
+          (cases-bool (before (getD ps k d) p));
     }
 
   pub halving-all : (low high : ℕ) → Halving ps p low high → high ≤ low → Place ps p low
@@ -85,14 +85,14 @@ module _ (ps : List Pair) (p : Pair) (k : ℕ) (up : RisingPairs ps) (here : Pla
   -- what stands in a rising list stands in its place
   pub stands-there : (d : Pair) → In p ps → (k < length ps) × (getD ps k d ≡ p)
   stands-there d i =
-    let o = place-of ps p d i in
-    ⊎-elim
-    (λ lt. absurd (both-ways (before p p) (before-self p) (subst (λ x. before x p ≡ true) (o .2) (here .below (o .0) d (omega arith) lt))))
-    (λ ge. ⊎-elim
+      let o = place-of ps p d i in
+      ⊎-elim
+      (λ lt. absurd (both-ways (before p p) (before-self p) (subst (λ x. before x p ≡ true) (o .2) (here .below (o .0) d (omega arith) lt))))
+      (λ ge. ⊎-elim
       (λ lt. absurd (both-ways (before (getD ps k d) p) (here .above k d (omega arith) (omega (arith, o .1))) (subst (λ x. before (getD ps k d) x ≡ true) (o .2) (before-so (getD ps k d) (getD ps (o .0) d) (rising-at ps up k (o .0) d lt (o .1))))))
       (λ le. let e : o .0 ≡ k = omega arith in (omega (arith, o .1), ap (λ x. getD ps x d) (sym e) ∙ o .2))
       (cases-lt k (o .0)))
-    (cases-lt (o .0) k)
+      (cases-lt (o .0) k)
 
   pub stands-so : (d : Pair) → k < length ps → getD ps k d ≡ p → In p ps
   stands-so d l e = subst (λ x. In x ps) e (in-at ps k d l)

@@ -55,13 +55,13 @@ module _ (ps : List Pair) (m k : ℕ) (old : List Bool) (oldf : List ℕ) (oldn 
     spreading-more d f n l e marked keeps = record {
       grows = λ h q. marked-still new (getD ps k d .group) h (now .grows h q);
       takes = λ j d′ lj jl q. ⊎-elim
-        (λ lt. marked-still new (getD ps k d .group) (getD ps j d′ .group) (now .takes j d′ lt jl q))
-        (λ ge. let r : j ≡ k = omega arith in subst (Marked (set new (getD ps k d .group) true)) (ap (λ x. x .group) (getD-default ps k d d′ l ∙ ap (λ x. getD ps x d′) (sym r))) marked)
-        (cases-lt j k);
+          (λ lt. marked-still new (getD ps k d .group) (getD ps j d′ .group) (now .takes j d′ lt jl q))
+          (λ ge. let r : j ≡ k = omega arith in subst (Marked (set new (getD ps k d .group) true)) (ap (λ x. x .group) (getD-default ps k d d′ l ∙ ap (λ x. getD ps x d′) (sym r))) marked)
+          (cases-lt j k);
       only = λ h q. ⊎-elim
-        (λ r. inr (subst (λ x. In x ps) (same-pair (getD ps k d) (pair m h) e (sym r)) (in-at ps k d l)))
-        (now .only h)
-        (marked-before new (getD ps k d .group) h q);
+          (λ r. inr (subst (λ x. In x ps) (same-pair (getD ps k d) (pair m h) e (sym r)) (in-at ps k d l)))
+          (now .only h)
+          (marked-before new (getD ps k d .group) h q);
       from = λ j d′ lj jl. now .from j d′ (omega arith) jl;
       keeps = keeps-trans oldf newf f oldn newn n (now .keeps) keeps;
     }
@@ -72,15 +72,15 @@ module _ (ps : List Pair) (m k : ℕ) (old : List Bool) (oldf : List ℕ) (oldn 
       grows = now .grows;
       only = now .only;
       takes = λ h i.
-        let o = place-of ps (pair m h) d i in
-        let is-m : getD ps (o .0) d .member ≡ m = ap (λ x. x .member) (o .2) in
-        ⊎-elim
-        (λ lt. subst (Marked new) (ap (λ x. x .group) (o .2)) (now .takes (o .0) d lt (o .1) is-m))
-        (λ ge. absurd (⊎-elim
+          let o = place-of ps (pair m h) d i in
+          let is-m : getD ps (o .0) d .member ≡ m = ap (λ x. x .member) (o .2) in
+          ⊎-elim
+          (λ lt. subst (Marked new) (ap (λ x. x .group) (o .2)) (now .takes (o .0) d lt (o .1) is-m))
+          (λ ge. absurd (⊎-elim
           (λ lt. let u = rising-at ps up k (o .0) d lt (o .1) in let v = now .from k d (omega arith) (omega (arith, o .1)) in past (omega (arith, o .1)) (omega (arith, u .0)))
           (λ le. let q : o .0 ≡ k = omega arith in past (omega (arith, o .1)) (ap (λ x. getD ps x d .member) (sym q) ∙ is-m))
           (cases-lt k (o .0))))
-        (cases-lt (o .0) k);
+          (cases-lt (o .0) k);
     }
 
 -- all found below next are followed; marked is only what s is within
@@ -105,11 +105,11 @@ module _ (ps : List Pair) (s : ℕ) where
       start = spread .grows s (now .start);
       sound = λ h q. ⊎-elim (now .sound h) (λ i. within-trans ps s (getD found next 0) h (now .sound (getD found next 0) here) (within-one ps (getD found next 0) h i)) (spread .only h q);
       closed = λ i li h j.
-        let q : In (pair (getD found i 0) h) ps = subst (λ x. In (pair x h) ps) (same i (omega arith)) j in
-        ⊎-elim
-        (λ lt. spread .grows h (now .closed i lt h q))
-        (λ ge. let r : i ≡ next = omega arith in spread .takes h (subst (λ x. In (pair (getD found x 0) h) ps) r q))
-        (cases-lt i next);
+          let q : In (pair (getD found i 0) h) ps = subst (λ x. In (pair x h) ps) (same i (omega arith)) j in
+          ⊎-elim
+          (λ lt. spread .grows h (now .closed i lt h q))
+          (λ ge. let r : i ≡ next = omega arith in spread .takes h (subst (λ x. In (pair (getD found x 0) h) ps) r q))
+          (cases-lt i next);
       upto = omega (arith, keeps .count);
     }
       where

@@ -5,3 +5,4 @@ pub mod Refusals
 pub mod Sound
 pub mod Sure
 pub mod Walks
+pub mod Tables

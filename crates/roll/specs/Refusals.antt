@@ -24,17 +24,17 @@ WithinRoll pairs s g = SubjectNumber s × SubjectNumber g × Within pairs s g
 -- the first two checks of a put, which look at the pair alone
 abbrev pub fresh-checks : List Pair → ℕ → ℕ → List (Check RollFault)
 fresh-checks pairs m g =
-  refuse RollFault.BadNumber (BothSubjects m g → ⊥)
-  ∷ refuse RollFault.Taken (In (pair m g) pairs)
-  ∷ []
+    refuse RollFault.BadNumber (BothSubjects m g → ⊥)
+    ∷ refuse RollFault.Taken (In (pair m g) pairs)
+    ∷ []
 
 -- the checks of a put but the last
 abbrev pub loop-checks : List Pair → ℕ → ℕ → List (Check RollFault)
 loop-checks pairs m g =
-  refuse RollFault.BadNumber (BothSubjects m g → ⊥)
-  ∷ refuse RollFault.Taken (In (pair m g) pairs)
-  ∷ refuse RollFault.Loop (Within pairs g m)
-  ∷ []
+    refuse RollFault.BadNumber (BothSubjects m g → ⊥)
+    ∷ refuse RollFault.Taken (In (pair m g) pairs)
+    ∷ refuse RollFault.Loop (Within pairs g m)
+    ∷ []
 
 -- the last check of a put
 abbrev pub full-checks : List Pair → ℕ → List (Check RollFault)
@@ -48,24 +48,24 @@ pub record Addable (pairs : List Pair) (p : Pair) : Type 0 where
 
 abbrev pub put-checks : List Pair → ℕ → ℕ → ℕ → List (Check RollFault)
 put-checks pairs ceiling m g =
-  refuse RollFault.BadNumber (BothSubjects m g → ⊥)
-  ∷ refuse RollFault.Taken (In (pair m g) pairs)
-  ∷ refuse RollFault.Loop (Within pairs g m)
-  ∷ refuse RollFault.Full (length pairs ≡ ceiling)
-  ∷ []
+    refuse RollFault.BadNumber (BothSubjects m g → ⊥)
+    ∷ refuse RollFault.Taken (In (pair m g) pairs)
+    ∷ refuse RollFault.Loop (Within pairs g m)
+    ∷ refuse RollFault.Full (length pairs ≡ ceiling)
+    ∷ []
 
 abbrev pub take-checks : List Pair → ℕ → ℕ → List (Check RollFault)
 take-checks pairs m g =
-  refuse RollFault.BadNumber (BothSubjects m g → ⊥)
-  ∷ refuse RollFault.Absent (In (pair m g) pairs → ⊥)
-  ∷ []
+    refuse RollFault.BadNumber (BothSubjects m g → ⊥)
+    ∷ refuse RollFault.Absent (In (pair m g) pairs → ⊥)
+    ∷ []
 
 -- before a roll is made: a list of so many places, and the ceiling wanted
 abbrev pub make-checks : ℕ → ℕ → List (Check RollFault)
 make-checks places ceiling =
-  refuse RollFault.ShortList (places < ceiling)
-  ∷ refuse RollFault.BadNumber ((ceiling ≡ 0) ⊎ (2048 < ceiling))
-  ∷ []
+    refuse RollFault.ShortList (places < ceiling)
+    ∷ refuse RollFault.BadNumber ((ceiling ≡ 0) ⊎ (2048 < ceiling))
+    ∷ []
 
 -- the ceiling of a roll as it was made: the one wanted, or 0 where the check refuses
 pub record Granted (places wanted ceiling : ℕ) : Type 0 where

@@ -1,6 +1,8 @@
 // The check before a pair roll is made, and its making.
 use crate::making::check_room;
+use crate::making::granted;
 use crate::pair_roll::PairRoll;
+use crate::store::Store;
 use rights::Pair;
 use rights::RollFault;
 ghost use mathlib.Core.Path.{_≡_};
@@ -8,7 +10,7 @@ ghost use mathlib.Core.List.{[]};
 ghost use lib.ListN.{length};
 ghost use Rattle.rights.specs.Checks.{First, fault-of};
 ghost use Rattle.roll.specs.Refusals.{make-checks, Granted};
-ghost use Rattle.roll.specs.Kept.{kept};
+ghost use Rattle.roll.specs.Kept.{stored};
 
 impl<'a> PairRoll<'a> {
     // Whether a roll of that ceiling may be made over the list.
@@ -20,17 +22,15 @@ impl<'a> PairRoll<'a> {
 
     // An empty roll of that ceiling, or of ceiling 0 where the check refuses.
     pub fn new(list: &'a mut [Pair], ceiling: usize) -> PairRoll<'a>
-        ensures empty { λ r. ⌜ kept r ≡ [] ⌝ }
-        ensures ceiling { λ r. ⌜ Granted (length (now (list .entry))) ceiling (r .most) ⌝ }
+        ensures empty { λ r. ⌜ stored (r .store) ≡ [] ⌝ }
+        ensures ceiling { λ r. ⌜ Granted (length (now (list .entry))) ceiling (r .store .most) ⌝ }
     {
-        let most = match check_room(list.len(), ceiling) {
-            Ok(()) => ceiling,
-            Err(_) => 0,
-        };
-        PairRoll {
+        let most = granted(list.len(), ceiling);
+        let store = Store {
             list,
             count: 0,
             most,
-        }
+        };
+        PairRoll { store }
     }
 }

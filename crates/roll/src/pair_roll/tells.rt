@@ -2,35 +2,33 @@
 use crate::means::Roll;
 use crate::numbers::both_subjects;
 use crate::pair_roll::PairRoll;
-use crate::reached::walk::walk;
-use crate::search::holds;
-ghost use Rattle.roll.specs.Kept.{kept, pair-laws};
+ghost use Rattle.roll.specs.Kept.{stored, store-laws};
 
 pub impl Roll for PairRoll<'_> as PairRollTells {
-    ghost pairs = { kept };
+    ghost pairs = { λ x. stored (x .store) };
 
-    ghost ceiling = { λ x. x .most };
+    ghost ceiling = { λ x. x .store .most };
 
-    ghost laws = { pair-laws };
+    ghost laws = { λ x. store-laws (x .store) (x .held) };
 
     fn count(&self) -> usize {
-        self.count
+        self.store.count
     }
 
     fn ceiling(&self) -> usize {
-        self.most
+        self.store.most
     }
 
     fn stands(&self, m: u16, g: u16) -> bool {
         match both_subjects(m, g) {
-            Some(p) => holds(&self.list[0..self.count], p),
+            Some(p) => self.store.holds(p),
             None => false,
         }
     }
 
     fn within(&self, s: u16, g: u16) -> bool {
         match both_subjects(s, g) {
-            Some(p) => walk(&self.list[0..self.count], p.member)[p.group as usize],
+            Some(p) => self.store.reached(p.member)[p.group as usize],
             None => false,
         }
     }

@@ -15,7 +15,10 @@ fn spread(pairs: &[Pair], m: u8, seen: &mut Reached)
     ensures found { λ _. ⌜ take (now (seen .entry) .count) (now (seen .exit) .found) ≡ take (now (seen .entry) .count) (now (seen .entry) .found) ⌝ }
     ensures count { λ _. ⌜ now (seen .entry) .count ≤ now (seen .exit) .count ⌝ }
 {
-    let first = Pair { member: m, group: 0 };
+    let first = Pair {
+        member: m,
+        group: 0,
+    };
     let mut k = place(pairs, first);
     while k < pairs.len() && pairs[k].member == m {
         seen.mark(pairs[k].group);

@@ -14,6 +14,6 @@ pub returns-else-k-pairs : need.returns-else-k-pairs
 returns-else-k-pairs c i =
     let there = stands-there (c .args .pairs .now) (c .args .p) (c .place-k .result) (c .pre) (c .place-k .ensures) (pair 0 0) i in
     elim (c .else-k-pairs .came) [
-      else-k-pairs·by·then-k-pairs·else-equal w ↦ both-ways (w .equal .result) (w .if-equal .left) (w .equal .ensures .1 (there .1))
-    | else-k-pairs·by·else-k-pairs w ↦ omega (arith, there .0, w .if-k-pairs .left)
+      | else-k-pairs·by·then-k-pairs·else-equal w ↦ both-ways (w .equal .result) (w .if-equal .left) (w .equal .ensures .1 (there .1))
+      | else-k-pairs·by·else-k-pairs w ↦ omega (arith, there .0, w .if-k-pairs .left)
     ]

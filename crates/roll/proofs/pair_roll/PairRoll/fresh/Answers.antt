@@ -1,5 +1,0 @@
-use Rattle.roll.proofs.Keeping.{rising-part}
-use Rattle.roll.proofs.pair_roll.PairRoll.fresh.Needs as need
-
-pub fresh-requires : need.fresh-requires
-fresh-requires c κs = rising-part (c .args .self .now)

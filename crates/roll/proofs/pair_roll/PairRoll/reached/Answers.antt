@@ -1,5 +1,0 @@
-use Rattle.roll.proofs.Keeping.{rising-part}
-use Rattle.roll.proofs.pair_roll.PairRoll.reached.Needs as need
-
-pub walk-requires : need.walk-requires
-walk-requires c κs = rising-part (c .args .self .now)
