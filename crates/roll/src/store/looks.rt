@@ -8,6 +8,7 @@ use crate::store::Store;
 use rights::Pair;
 use rights::RollFault;
 ghost use mathlib.Core.Path.{_≡_};
+ghost use lib.ListN.{length};
 ghost use Rattle.std.specs.Orderings.{Decides};
 ghost use Rattle.std.specs.Vec.{made};
 ghost use Rattle.rights.specs.Checks.{First, fault-of};
@@ -19,6 +20,13 @@ ghost use Rattle.roll.specs.Refusals.{fresh-checks};
 ghost use Rattle.roll.specs.Walks.{Reaches};
 
 impl Store<'_> {
+    pub(crate) fn size(&self) -> usize
+        requires { ⌜ Held (now self) ⌝ }
+        ensures { λ r. ⌜ r ≡ length (stored (now (self .entry))) ⌝ }
+    {
+        self.count
+    }
+
     pub(crate) fn place_of(&self, p: Pair) -> usize
         requires { ⌜ Held (now self) ⌝ }
         ensures { λ r. ⌜ Place (stored (now (self .entry))) p r ⌝ }

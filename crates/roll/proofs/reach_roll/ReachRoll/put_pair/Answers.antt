@@ -8,7 +8,7 @@ use Rattle.roll.specs.Pairs.{added}
 use Rattle.roll.specs.Tables.{Current}
 use Rattle.roll.proofs.Currents.{current-joined}
 use Rattle.roll.proofs.Puts.{put-refused, put-last}
-use Rattle.roll.proofs.reach_roll.changes.ReachRollChanges.put.Needs as need
+use Rattle.roll.proofs.reach_roll.ReachRoll.put_pair.Needs as need
 
 pub returns-in-Break-p : need.returns-in-Break-p
 returns-in-Break-p c =

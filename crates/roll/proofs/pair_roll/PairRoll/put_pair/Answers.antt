@@ -5,7 +5,7 @@ use Rattle.std.proofs.shelf.Results.{err-from-errBy}
 use Rattle.roll.specs.Kept.{stored, held-sure}
 use Rattle.roll.specs.Pairs.{added}
 use Rattle.roll.proofs.Puts.{put-refused, put-last}
-use Rattle.roll.proofs.pair_roll.changes.PairRollChanges.put.Needs as need
+use Rattle.roll.proofs.pair_roll.PairRoll.put_pair.Needs as need
 
 pub returns-in-Break-p : need.returns-in-Break-p
 returns-in-Break-p c =

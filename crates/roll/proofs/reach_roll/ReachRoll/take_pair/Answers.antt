@@ -6,7 +6,7 @@ use Rattle.roll.specs.Pairs.{dropped}
 use Rattle.roll.specs.Tables.{Current, Renewed}
 use Rattle.roll.proofs.Currents.{current-renewed}
 use Rattle.roll.proofs.Firsts.{first-hit}
-use Rattle.roll.proofs.reach_roll.changes.ReachRollChanges.take.Needs as need
+use Rattle.roll.proofs.reach_roll.ReachRoll.take_pair.Needs as need
 
 pub returns-in-rest : need.returns-in-rest
 returns-in-rest c = record { refuses = first-hit _ _ (c .in-rest .ensures tt); drops = refl; keeps = refl }
