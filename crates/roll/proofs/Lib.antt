@@ -1,0 +1,15 @@
+pub mod Orders
+pub mod Lists
+pub mod Sounds
+pub mod Places
+pub mod Walks
+pub mod Spreads
+pub mod Firsts
+pub mod Makings
+pub mod Moves
+pub mod Gaps
+pub mod Keeping
+pub mod Puts
+pub mod Sweeps
+pub mod Rows
+pub mod Currents
