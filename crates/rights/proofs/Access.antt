@@ -1,13 +1,12 @@
 -- The laws of access: weak entries reach along the pairs that are not blocked, tests decide each rule,
 -- every question has exactly one answer, and the rules give yes exactly where that answer is a yes.
-use mathlib.Core.Path.{_≡_, refl, sym, ap, subst, _∙_}
+use mathlib.Core.Path.{_≡_, refl, sym, subst}
 use mathlib.Core.Bool.{Bool, true, false, true≢false, not, cond, _&&_, _||_}
 use mathlib.Core.Logic.{_⊎_, inl, inr, ⊎-elim}
 use mathlib.Core.List.{List, [], _∷_}
 use Prim.Native.Nat.{ℕ, zero, suc}
 use Rattle.std.specs.Orderings.{Decides}
-use Rattle.std.specs.declared.option.Option.{Option}
-use Rattle.std.specs.declared.option.Option.the-variants.{Some, None}
+use Rattle.std.specs.declared.option.Option.the-variants.{Some}
 use Rattle.std.proofs.shelf.Ways.{decides-and, decides-or, decides-not, decides-like}
 use Rattle.rights.specs.declared.commands.Answer.{Answer}
 use Rattle.rights.specs.declared.commands.Ground.{Ground}
@@ -17,14 +16,14 @@ use Rattle.rights.specs.declared.vocabulary.Privilege.{Privilege}
 use Rattle.rights.specs.declared.vocabulary.Sign.{Sign}
 use Rattle.rights.specs.declared.vocabulary.Strength.{Strength}
 use Rattle.rights.specs.Access.{ButLast, other, WeakAt, Applies, Denied, Weakly, Granted, strongly, weakly, by-names, ByNames, rules, Answers}
-use Rattle.rights.specs.Checks.{Check, First}
-use Rattle.rights.specs.Holding.{Gives, Holds, StrongPlus, StrongMinus}
+use Rattle.rights.specs.Checks.{First}
+use Rattle.rights.specs.Holding.{Holds, StrongPlus, StrongMinus}
 use Rattle.rights.specs.Lists.{In}
 use Rattle.rights.specs.Pairs.{pair}
-use Rattle.rights.specs.Tables.{Tables, IsBase, IsView, Owns, Names, Beneath, Levelled}
+use Rattle.rights.specs.Tables.{Tables, IsBase, IsView, Names, Beneath, Levelled}
 use Rattle.rights.specs.Within.{Path, here, step, Within}
 use Rattle.rights.proofs.Checks.{first-unique, first-decided}
-use Rattle.rights.proofs.Deciding.{Each-in, some-test, each-test, passing, passing-in, passing-from, decides-some, decides-each, decides-always, either-way}
+use Rattle.rights.proofs.Deciding.{some-test, each-test, passing, passing-in, passing-from, decides-some, decides-each, decides-always, either-way}
 use Rattle.rights.proofs.Grounds.{Says, answers-says, says-answers}
 use Rattle.rights.proofs.Holding.{holds-test, strong-plus-test, strong-minus-test, weak-at-test, decides-holds, decides-strong-plus, decides-strong-minus, decides-weak-at}
 use Rattle.rights.proofs.Tables.{Low, base-test, view-test, owns-test, beneath-test, names-of, decides-base, decides-view, decides-owns, decides-beneath, names-in, in-names, low-named, low-names-none, levels-of, some-same}

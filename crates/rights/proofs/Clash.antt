@@ -1,7 +1,7 @@
 -- The laws of clash: it is the first and the second rule applying together where minuses stand on base tables only,
 -- it grows with the pairs, the tables and the entries, and a test decides it.
-use mathlib.Core.Path.{_≡_, refl, sym, ap, subst, _∙_}
-use mathlib.Core.Bool.{Bool, true, false, true≢false, _&&_, _||_}
+use mathlib.Core.Path.{_≡_, refl, sym, ap, subst}
+use mathlib.Core.Bool.{Bool, _&&_, _||_}
 use mathlib.Core.Logic.{_⊎_, inl, inr, ⊎-elim}
 use mathlib.Core.List.{List, [], _∷_, _++_, map}
 use Prim.Native.Nat.{ℕ}
@@ -16,13 +16,14 @@ use Rattle.rights.specs.declared.vocabulary.Sign.{Sign}
 use Rattle.rights.specs.declared.vocabulary.Strength.{Strength}
 use Rattle.rights.specs.Access.{Denied}
 use Rattle.rights.specs.Clash.{Clash, Clashing}
-use Rattle.rights.specs.Holding.{Gives, Holds, StrongPlus, StrongMinus, MinusOnBases}
+use Rattle.rights.specs.Holding.{Holds, StrongPlus, StrongMinus, MinusOnBases}
 use Rattle.rights.specs.Lists.{In}
 use Rattle.rights.specs.Pairs.{pair}
-use Rattle.rights.specs.Tables.{Tables, IsBase, Beneath, AtOrBeneath, Levelled, Extends}
+use Rattle.rights.specs.Tables.{Tables, IsBase, AtOrBeneath, Levelled, Extends}
 use Rattle.rights.specs.Within.{Within, Below}
 use Rattle.rights.proofs.Deciding.{Among, Some-in, some-test, decides-some, either-way}
 use Rattle.rights.proofs.Holding.{same-right, decides-same-right, within-test, decides-within, strong-plus-test, decides-strong-plus, strong-plus-grows, strong-minus-grows}
+use Rattle.rights.proofs.Parts.{in-left, in-right}
 use Rattle.rights.proofs.Tables.{Low, beneath-base, beneath-extends, beneath-test, decides-beneath, levels-of}
 use Rattle.rights.proofs.Within.{within-cases}
 
@@ -48,15 +49,6 @@ module _ (ps qs : List Pair) (pairs-in : Among ps qs) (tables more : Tables) (ke
   pub clashing-grows : Clashing ps tables es → Clashing qs more fs
   unfolding Clashing
   clashing-grows c = (c .0, clash-grows (c .0) (c .1))
-
-in-left : {X : Type 0} (x : X) (xs ys : List X) → In x xs → In x (xs ++ ys)
-in-left x [] ys i = absurd i
-in-left x (y ∷ xs) ys (inl e) = inl e
-in-left x (y ∷ xs) ys (inr i) = inr (in-left x xs ys i)
-
-in-right : {X : Type 0} (x : X) (xs ys : List X) → In x ys → In x (xs ++ ys)
-in-right x [] ys i = i
-in-right x (y ∷ xs) ys i = inr (in-right x xs ys i)
 
 in-map : {X Y : Type 0} (f : X → Y) (x : X) (xs : List X) → In x xs → In (f x) (map f xs)
 in-map f x [] i = absurd i

@@ -1,7 +1,7 @@
 -- Tests over lists, and what they decide: that some element has a property, that all have it, which elements are kept.
 -- A part of a test that an earlier part may settle is bound by `let`, so that it is computed only where it is needed.
 use mathlib.Core.Path.{_≡_, refl, sym, ap, subst, _∙_}
-use mathlib.Core.Bool.{Bool, true, false, true≢false, not, cond, _&&_, _||_}
+use mathlib.Core.Bool.{Bool, true, false, true≢false, cond, _&&_, _||_}
 use mathlib.Core.Logic.{_⊎_, inl, inr, ⊎-elim}
 use mathlib.Core.List.{List, [], _∷_}
 use Rattle.std.specs.Orderings.{Decides}

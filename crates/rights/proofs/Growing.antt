@@ -1,24 +1,25 @@
 -- What stays as a register grows: strong answers, and every answer about a table that was there before.
-use mathlib.Core.Path.{_≡_, refl, sym, ap, subst, _∙_}
-use mathlib.Core.Bool.{Bool, true, false, cond}
-use mathlib.Core.Logic.{_⊎_, inl, inr, ⊎-elim, _↔_}
+use mathlib.Core.Path.{_≡_, sym, ap, subst, _∙_}
+use mathlib.Core.Bool.{cond}
+use mathlib.Core.Logic.{inl, inr, ⊎-elim}
 use mathlib.Core.List.{List}
 use Prim.Native.Nat.{ℕ}
-use lib.Dec.{eqb}
 use Rattle.std.specs.declared.option.Option.the-variants.{Some, None}
-use Rattle.std.proofs.shelf.Tests.{eqb-true, ne-eqb}
+use Rattle.std.proofs.shelf.Tests.{ne-eqb, cases-eq}
 use Rattle.rights.specs.declared.commands.Answer.{Answer}
 use Rattle.rights.specs.declared.commands.Ground.{Ground}
 use Rattle.rights.specs.declared.entries.Entry.{Entry}
 use Rattle.rights.specs.declared.entries.Pair.{Pair}
-use Rattle.rights.specs.declared.vocabulary.Privilege.{Privilege}
-use Rattle.rights.specs.Laws.{SameBelow, MoreOf, Strong-stays, Made-apart}
-use Rattle.rights.specs.Tables.{Table, Tables, made, Beneath, AtOrBeneath, Stands, Level, level, Levelled}
+use Rattle.rights.specs.Clash.{Clash}
+use Rattle.rights.specs.Holding.{Holds, StrongPlus, StrongMinus}
+use Rattle.rights.specs.Lists.{In}
+use Rattle.rights.specs.Laws.{SameBelow, Strong-stays, Made-apart, Dropped-apart}
+use Rattle.rights.specs.Tables.{Table, Tables, made, unmade, Names, Beneath, AtOrBeneath, Stands, Level, level, Levelled}
 use Rattle.rights.proofs.Clash.{denied-grows, denied-clash}
 use Rattle.rights.proofs.Grounds.{answers-says, says-answers}
 use Rattle.rights.proofs.Holding.{strong-plus-grows}
-use Rattle.rights.proofs.Reading.{reads-below}
-use Rattle.rights.proofs.Tables.{beneath-names, beneath-lower, none-some}
+use Rattle.rights.proofs.Reading.{same-back, beneath-back, strong-plus-same, reads-below}
+use Rattle.rights.proofs.Tables.{beneath-names, beneath-named, beneath-base, beneath-lower, none-some}
 
 pub strong-stays : Strong-stays
 strong-stays pairs pairs′ tables tables′ entries entries′ more u p t = (
@@ -50,5 +51,33 @@ module _ (tables : Tables) (t : ℕ) (r : Table) where
       other b (inl e) same = apart (sym e ∙ same)
       other b (inr q) same = let st = beneath-stands levels b d q in none-some (st .0) (sym free ∙ (ap tables (sym same) ∙ st .1))
 
+  -- the plus or the minus would stand on the new table, where there is no entry
+  pub made-clash : (pairs : List Pair) (entries : List Entry) → Levelled tables → tables t ≡ None → ((e : Entry) → In e entries → e .table ≡ t → ⊥) → (s : ℕ) → Clash pairs (made t r tables) entries s → Clash pairs tables entries s
+  unfolding Clash StrongPlus StrongMinus Holds
+  made-clash pairs entries levels free bare s c = ⊎-elim here elsewhere (cases-eq (c .1) t)
+    where
+      elsewhere : (c .1 ≡ t → ⊥) → Clash pairs tables entries s
+      elsewhere apart =
+          let same = made-same entries levels free (c .1) apart in (
+            c .0,
+            c .1,
+            c .2,
+            strong-plus-same pairs (made t r tables) entries tables entries s (c .0) (c .1) (same-back tables entries (made t r tables) entries (c .1) same) (c .3),
+            ⊎-elim (λ e. inl e) (λ q. inr (beneath-back tables entries (made t r tables) entries q same)) (c .4),
+            c .5,
+          )
+
+      here : c .1 ≡ t → Clash pairs tables entries s
+      here same = absurd (⊎-elim (λ h. bare (h .0) (h .1) (h .2 .0 ∙ same)) (λ o. ⊎-elim (λ e. let m = c .5 in bare (m .0) (m .1) (m .2 .0 ∙ (e ∙ same))) (beneath-base (made t r tables) (c .2) (c .1) (o .0)) (c .4)) (c .3))
+
 pub made-apart : Made-apart
-made-apart pairs tables entries t r levels free d apart = reads-below pairs tables (made t r tables) entries entries d (made-same tables t r entries levels free d apart)
+made-apart pairs tables entries t r levels free bare =
+    ((λ d apart. reads-below pairs tables (made t r tables) entries entries d (made-same tables t r entries levels free d apart)), made-clash tables t r pairs entries levels free bare)
+
+pub dropped-apart : Dropped-apart
+dropped-apart pairs tables entries entries′ t unnamed rest d apart = reads-below pairs tables (unmade t tables) entries entries′ d
+    (record { same-table = λ b q. sym (ap (λ x. cond x None (tables b)) (ne-eqb b t (other b q))); same-entry = λ e q. rest e (other (e .table) q) })
+  where
+    other : (b : ℕ) → AtOrBeneath tables b d → b ≡ t → ⊥
+    other b (inl e) same = apart (sym e ∙ same)
+    other b (inr q) same = let n = beneath-named tables q in unnamed (n .0) (subst (Names tables (n .0)) same (n .1))

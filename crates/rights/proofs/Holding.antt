@@ -1,7 +1,7 @@
 -- The laws of holding: it grows with the pairs and with the entries, and tests decide it.
-use mathlib.Core.Path.{_≡_, refl, sym, ap, ap₂, subst, _∙_}
-use mathlib.Core.Bool.{Bool, true, false, true≢false, _&&_, _||_}
-use mathlib.Core.Logic.{_⊎_, inl, inr, ⊎-elim}
+use mathlib.Core.Path.{_≡_, ap}
+use mathlib.Core.Bool.{Bool, _&&_, _||_}
+use mathlib.Core.Logic.{inl, inr}
 use mathlib.Core.List.{List, [], _∷_}
 use Prim.Native.Nat.{ℕ}
 use lib.Dec.{eqb}
@@ -19,13 +19,13 @@ use Rattle.rights.specs.Bits.{bit}
 use Rattle.rights.specs.Entries.{same-entry}
 use Rattle.rights.specs.Holding.{Gives, Holds, StrongPlus, StrongMinus}
 use Rattle.rights.specs.Lists.{In}
-use Rattle.rights.specs.Tables.{Table, Tables, IsBase, Owns, Extends}
+use Rattle.rights.specs.Tables.{Table, Tables, Extends}
 use Rattle.rights.specs.Within.{Within}
 use Rattle.rights.proofs.Bits.{bit-injective}
 use Rattle.rights.proofs.Deciding.{Among, some-test, decides-some, decides-in}
 use Rattle.rights.proofs.Order.{decides-same}
 use Rattle.rights.proofs.Tables.{base-test, owns-test, decides-base, decides-owns}
-use Rattle.rights.proofs.Within.{Through, within-same, within-none, within-grows, within-more, within-through}
+use Rattle.rights.proofs.Within.{within-same, within-none, within-grows, within-more, within-through}
 
 -- more pairs and more entries, more is held
 module _ (ps qs : List Pair) (pairs-in : Among ps qs) (es fs : List Entry) (entries-in : Among es fs) where

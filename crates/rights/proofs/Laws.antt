@@ -2,7 +2,7 @@
 use Rattle.rights.specs.Laws.{AccessLaws}
 use Rattle.rights.proofs.Access.{answers-unique, answered, granted-answer, answer-granted}
 use Rattle.rights.proofs.Clash.{denied-below, below-denied, clash-denied, denied-clash, clash-grows, clashing-or-not}
-use Rattle.rights.proofs.Growing.{strong-stays, made-apart}
+use Rattle.rights.proofs.Growing.{strong-stays, made-apart, dropped-apart}
 use Rattle.rights.proofs.Reading.{reads-below}
 use Rattle.rights.proofs.Tables.{level-unique, beneath-lower, not-beneath-itself}
 
@@ -19,5 +19,6 @@ access-laws = record {
   clash-told = clashing-or-not;
   strong-stays = strong-stays;
   made-apart = made-apart;
+  dropped-apart = dropped-apart;
   levels-fall = λ tables t n l. ((λ m k. level-unique tables l k), (λ b q. beneath-lower tables q n l), not-beneath-itself tables t n l);
 }

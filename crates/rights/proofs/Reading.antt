@@ -1,6 +1,6 @@
 -- What an answer reads: two states with the same tables and entries at a table and beneath it give it the same answers.
-use mathlib.Core.Path.{_≡_, refl, sym, ap, subst, _∙_}
-use mathlib.Core.Logic.{_⊎_, inl, inr, ⊎-elim, _↔_}
+use mathlib.Core.Path.{_≡_, refl, sym, subst, _∙_}
+use mathlib.Core.Logic.{inl, inr}
 use mathlib.Core.List.{List, [], _∷_}
 use Prim.Native.Nat.{ℕ}
 use Rattle.std.specs.declared.option.Option.the-variants.{Some}
@@ -11,7 +11,7 @@ use Rattle.rights.specs.declared.vocabulary.Privilege.{Privilege}
 use Rattle.rights.specs.declared.vocabulary.Sign.{Sign}
 use Rattle.rights.specs.declared.vocabulary.Strength.{Strength}
 use Rattle.rights.specs.Access.{ButLast, other, WeakAt, Applies, Denied, Weakly, Granted, strongly, weakly, by-names, ByNames, rules, Answers}
-use Rattle.rights.specs.Holding.{Gives, Holds, StrongPlus, StrongMinus}
+use Rattle.rights.specs.Holding.{Holds, StrongPlus, StrongMinus}
 use Rattle.rights.specs.Laws.{SameBelow, Reads-below}
 use Rattle.rights.specs.Lists.{In}
 use Rattle.rights.specs.Tables.{Table, Tables, IsBase, IsView, Owns, Names, Beneath, named, deeper, AtOrBeneath}
@@ -44,7 +44,7 @@ module _ (tables : Tables) (entries : List Entry) (tables′ : Tables) (entries�
   beneath-same (deeper {t} {w} {v} n q) h =
       deeper (table-same tables tables′ (λ r. In w (r .names)) v (h .same-table v (inl refl)) n) (beneath-same q (same-deeper w v (inr (named n)) h))
 
-  beneath-back : {b t : ℕ} → Beneath tables′ b t → Same t → Beneath tables b t
+  pub beneath-back : {b t : ℕ} → Beneath tables′ b t → Same t → Beneath tables b t
   beneath-back (named {t} {v} n) h = named (table-same tables′ tables (λ r. In t (r .names)) v (sym (h .same-table v (inl refl))) n)
   beneath-back (deeper {t} {w} {v} n q) h =
       let m = table-same tables′ tables (λ r. In w (r .names)) v (sym (h .same-table v (inl refl))) n in
@@ -81,7 +81,7 @@ module _ (pairs : List Pair) (tables : Tables) (entries : List Entry) (tables′
   names-back : (t d : ℕ) → SameBelow tables entries tables′ entries′ t → Names tables′ t d → Names tables t d
   names-back t d h = table-same tables′ tables (λ r. In d (r .names)) t (sym (h .same-table t (inl refl)))
 
-  strong-plus-same : (s : ℕ) (p : Privilege) (t : ℕ) → SameBelow tables entries tables′ entries′ t → StrongPlus pairs tables entries s p t → StrongPlus pairs tables′ entries′ s p t
+  pub strong-plus-same : (s : ℕ) (p : Privilege) (t : ℕ) → SameBelow tables entries tables′ entries′ t → StrongPlus pairs tables entries s p t → StrongPlus pairs tables′ entries′ s p t
   unfolding StrongPlus
   strong-plus-same s p t h (inl k) = inl (holds-same s p Sign.Plus t Strength.Strong h k)
   strong-plus-same s p t h (inr o) = inr (base-same t h (o .0), owns-same s t h (o .1))

@@ -1,14 +1,13 @@
 -- The answers of the rules in the small states, found by the tests, and where the tables of those states stand.
-use mathlib.Core.Path.{_≡_, refl, sym, subst}
-use mathlib.Core.List.{List, [], _∷_}
+use mathlib.Core.Path.{_≡_, refl, subst}
+use mathlib.Core.List.{[], _∷_}
 use Prim.Native.Nat.{ℕ}
 use native.Mathlib.Omega.{arith}
-use Rattle.std.specs.declared.option.Option.the-variants.{None}
 use Rattle.rights.specs.declared.commands.Answer.{Answer}
 use Rattle.rights.specs.declared.vocabulary.Privilege.{Privilege}
 use Rattle.rights.specs.Access.{Answers}
 use Rattle.rights.specs.Scenes.{Example, diamond, shortcut, own-plus, both-signs, two-levels, owned-table, owned-view, allowed-view, scene, right-answer, Examples-answered, one-base, with-base, with-view}
-use Rattle.rights.specs.Tables.{Tables, no-tables, level, over-none, over-more}
+use Rattle.rights.specs.Tables.{no-tables, level, over-none, over-more}
 use Rattle.rights.proofs.Access.{answer, answers}
 use Rattle.rights.proofs.Tables.{Low, low-none, low-made}
 

@@ -1,7 +1,7 @@
 -- The laws of tables: beneath is transitive, a level is unique and falls from a view to what it names,
 -- and tests that decide what stands, what a table names and what is beneath it.
 use mathlib.Core.Path.{_≡_, refl, sym, ap, ap₂, subst, _∙_}
-use mathlib.Core.Bool.{Bool, true, false, true≢false, not, cond, _&&_, _||_}
+use mathlib.Core.Bool.{Bool, true, false, true≢false, not, cond, _||_}
 use mathlib.Core.Logic.{_⊎_, inl, inr, ⊎-elim}
 use mathlib.Core.List.{List, [], _∷_}
 use Prim.Native.Nat.{ℕ, zero, suc, _+_, _≤_, _<_, max}
@@ -10,10 +10,10 @@ use lib.Dec.{eqb}
 use Rattle.std.specs.Orderings.{Decides}
 use Rattle.std.specs.declared.option.Option.{Option}
 use Rattle.std.specs.declared.option.Option.the-variants.{Some, None}
-use Rattle.std.proofs.shelf.Tests.{eqb-true, eqb-false, eq-eqb, cond-true, cond-false}
+use Rattle.std.proofs.shelf.Tests.{eqb-true}
 use Rattle.std.proofs.shelf.Ways.{decides-eqb, decides-or, decides-not, decides-like}
 use Rattle.rights.specs.Lists.{In}
-use Rattle.rights.specs.Tables.{Table, Tables, no-tables, made, Stands, IsBase, IsView, Owns, Names, Beneath, named, deeper, Level, level, LevelOver, over-none, over-more, Levelled, Extends}
+use Rattle.rights.specs.Tables.{Table, Tables, no-tables, made, unmade, Stands, IsBase, IsView, Owns, Names, Beneath, named, deeper, Level, level, LevelOver, over-none, over-more, Levelled, Extends}
 use Rattle.rights.proofs.Deciding.{some-test, decides-some, decides-in, either-way}
 
 pub some-same : {X : Type 0} (x y : X) → Some x ≡ Some y → x ≡ y
@@ -31,6 +31,11 @@ module _ (tables : Tables) where
   pub beneath-names : {b t : ℕ} → Beneath tables b t → (d : ℕ) × Names tables t d
   beneath-names (named {t} n) = (t, n)
   beneath-names (deeper {w = w} n q) = (w, n)
+
+  -- what is beneath something is named by something
+  pub beneath-named : {b t : ℕ} → Beneath tables b t → (v : ℕ) × Names tables v b
+  beneath-named (named {v = v} n) = (v, n)
+  beneath-named (deeper n q) = beneath-named q
 
   pub names-stands : (v t : ℕ) → Names tables v t → Stands tables v
   names-stands v t n = (n .0, n .1)
@@ -210,6 +215,14 @@ module _ (tables : Tables) (t : ℕ) (r : Table) where
       by : (b : Bool) → eqb d t ≡ b → cond b (Some r) (tables d) ≡ Some (st .0) → (j : ℕ) × Level (made t r tables) d j × (j ≤ n)
       by true same e = (k, level (ap (λ b. cond b (Some r) (tables d)) same) (over-extends tables (made t r tables) (made-extends free) o), le)
       by false apart e = let l = low d (st .0, e) in (l .0, level-extends tables (made t r tables) (made-extends free) (l .1), l .2)
+
+-- taking a table out adds none
+pub unmade-extends : (tables : Tables) (t : ℕ) → Extends (unmade t tables) tables
+unmade-extends tables t d r e = by (eqb d t) e
+  where
+    by : (b : Bool) → cond b None (tables d) ≡ Some r → tables d ≡ Some r
+    by true k = absurd (none-some r k)
+    by false k = k
 
 pub low-none : (n t : ℕ) → Low no-tables n t
 low-none n t st = absurd (none-some (st .0) (st .1))

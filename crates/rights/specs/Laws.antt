@@ -14,7 +14,7 @@ use Rattle.rights.specs.Access.{Answers, Denied, Granted}
 use Rattle.rights.specs.Clash.{Clash, Clashing}
 use Rattle.rights.specs.Holding.{StrongPlus, StrongMinus, MinusOnBases}
 use Rattle.rights.specs.Lists.{In}
-use Rattle.rights.specs.Tables.{Table, Tables, made, Beneath, AtOrBeneath, Level, Levelled, Extends}
+use Rattle.rights.specs.Tables.{Table, Tables, made, unmade, Names, Beneath, AtOrBeneath, Level, Levelled, Extends}
 
 -- no question has two answers, and where every table has a level each has one
 abbrev pub One-answer : Type 0
@@ -62,10 +62,17 @@ Strong-stays = (pairs pairs′ : List Pair) (tables tables′ : Tables) (entries
     (Answers pairs tables entries u p t (Answer.Yes Ground.Strong) → Answers pairs′ tables′ entries′ u p t (Answer.Yes Ground.Strong)) ×
     ((Clash pairs′ tables′ entries′ u → ⊥) → Answers pairs tables entries u p t (Answer.No Ground.Strong) → Answers pairs′ tables′ entries′ u p t (Answer.No Ground.Strong))
 
--- a table made under a free number changes no answer about another
+-- a table made under a free number, with no entry on it, changes no answer about another and makes no clash
 abbrev pub Made-apart : Type 0
-Made-apart = (pairs : List Pair) (tables : Tables) (entries : List Entry) (t : ℕ) (r : Table) → Levelled tables → tables t ≡ None → (d : ℕ) → (d ≡ t → ⊥) →
-    (u : ℕ) (p : Privilege) (a : Answer) → Answers pairs tables entries u p d a ↔ Answers pairs (made t r tables) entries u p d a
+Made-apart = (pairs : List Pair) (tables : Tables) (entries : List Entry) (t : ℕ) (r : Table) → Levelled tables → tables t ≡ None → ((e : Entry) → In e entries → e .table ≡ t → ⊥) →
+    ((d : ℕ) → (d ≡ t → ⊥) → (u : ℕ) (p : Privilege) (a : Answer) → Answers pairs tables entries u p d a ↔ Answers pairs (made t r tables) entries u p d a) ×
+    ((s : ℕ) → Clash pairs (made t r tables) entries s → Clash pairs tables entries s)
+
+-- a table that no view names, taken out with the entries on it, changes no answer about another
+abbrev pub Dropped-apart : Type 0
+Dropped-apart = (pairs : List Pair) (tables : Tables) (entries entries′ : List Entry) (t : ℕ) → ((v : ℕ) → Names tables v t → ⊥) →
+    ((e : Entry) → (e .table ≡ t → ⊥) → In e entries ↔ In e entries′) →
+    (d : ℕ) → (d ≡ t → ⊥) → (u : ℕ) (p : Privilege) (a : Answer) → Answers pairs tables entries u p d a ↔ Answers pairs (unmade t tables) entries′ u p d a
 
 -- one can tell whether there is a clash
 abbrev pub Clash-told : Type 0
@@ -87,4 +94,5 @@ pub record AccessLaws : Type 0 where
   pub clash-told : Clash-told
   pub strong-stays : Strong-stays
   pub made-apart : Made-apart
+  pub dropped-apart : Dropped-apart
   pub levels-fall : Levels-fall

@@ -16,6 +16,9 @@ use Rattle.rights.specs.Tables.{Tables, no-tables, made}
 pub data Example : Type 0 where
   diamond shortcut own-plus both-signs two-levels owned-table owned-view allowed-view : Example
 
+abbrev pub examples : List Example
+examples = diamond ∷ shortcut ∷ own-plus ∷ both-signs ∷ two-levels ∷ owned-table ∷ owned-view ∷ allowed-view ∷ []
+
 -- a state, and the table that the question is about
 pub record Scene : Type 0 where
   pub pairs : List Pair

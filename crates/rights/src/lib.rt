@@ -18,7 +18,6 @@ pub use faults::RegisterFault;
 pub use faults::RollFault;
 pub use faults::SheetFault;
 pub use records::Subject;
-pub use theorems::access_examples;
 pub use theorems::access_laws;
 pub use theorems::mandate_laws;
 pub use theorems::worked_sheet_stands;
