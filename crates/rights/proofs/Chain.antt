@@ -21,7 +21,7 @@ use Rattle.rights.specs.Tables.{Tables, Levelled}
 use Rattle.rights.proofs.Cover.{supported-grows, supported-or-not}
 use Rattle.rights.proofs.Deciding.{Among, some-test, passing, decides-in, decides-from-cases, either-way}
 use Rattle.rights.proofs.Order.{decides-same}
-use Rattle.rights.proofs.Parts.{failing, find, Sought, in-left, in-right, find-sought, failing-in, in-failing, parted-same, parted-by, kept-parted}
+use Rattle.rights.proofs.Parts.{failing, find, Sought, in-left, in-right, find-sought, failing-in, in-failing, parted-same, parted-by, parted-kept, kept-parted}
 use Rattle.rights.proofs.Within.{Or-not}
 
 -- marking by a test of support: one entry of the rest after the other, while some is supported by the marked
@@ -179,6 +179,28 @@ module _ (tables : Tables) where
   pub revoked-same : (named : Entry) (entries kept struck kept′ struck′ : List Entry) → Revoked tables named entries kept struck → Revoked tables named entries kept′ struck′ → (kept ≡ kept′) × (struck ≡ struck′)
   unfolding Revoked
   revoked-same named entries kept struck kept′ struck′ p q = parted-same (HasChain tables (Others entries named)) p q
+
+  -- what is kept has a chain in what is kept
+  pub kept-upheld : (named : Entry) (entries kept struck : List Entry) → Revoked tables named entries kept struck → (e : Entry) → In e kept → HasChain tables (λ f. In f kept) e
+  unfolding Revoked
+  kept-upheld named entries kept struck p e i =
+      has-chain-least Standing Both step e (kept-parted (HasChain tables Standing) p e i .1) .1
+    where
+      Standing : Entry → Type 0
+      Standing = Others entries named
+
+      Both : Entry → Type 0
+      Both f = HasChain tables Standing f × HasChain tables (λ g. In g kept) f
+
+      step : (f : Entry) → Standing f → (l : List Entry) → ((g : Entry) → In g l → Both g) → Supported tables l f → Both f
+      step f s l h u =
+          let c = supported-has-chain Standing f s l (λ g j. h g j .0) u in
+          (c, supported-has-chain (λ g. In g kept) f (parted-kept (HasChain tables Standing) p f (s .0) c) l (λ g j. h g j .1) u)
+
+  -- a grant that is supported has a chain, and takes none away
+  pub granted-upheld : (entries : List Entry) (e : Entry) → ((f : Entry) → In f entries → HasChain tables (λ g. In g entries) f) → Supported tables entries e → (f : Entry) → In f (e ∷ entries) → HasChain tables (λ g. In g (e ∷ entries)) f
+  granted-upheld entries e all u f (inl q) = subst (HasChain tables (λ g. In g (e ∷ entries))) (sym q) (supported-has-chain (λ g. In g (e ∷ entries)) e (inl refl) entries (λ g j. has-chain-grows (λ x. In x entries) (λ x. In x (e ∷ entries)) (λ _ k. inr k) g (all g j)) u)
+  granted-upheld entries e all u f (inr i) = has-chain-grows (λ x. In x entries) (λ x. In x (e ∷ entries)) (λ _ k. inr k) f (all f i)
 
   -- the named entry is always struck
   pub revoked-named : (named : Entry) (entries kept struck : List Entry) → Revoked tables named entries kept struck → In named kept → ⊥

@@ -2,7 +2,7 @@
 -- MandateLaws: cover and chains. RunLaws: commands and their outcomes. Upheld: an entry with a chain in a list.
 use mathlib.Core.Path.{_≡_}
 use mathlib.Core.Logic.{_⊎_, _↔_}
-use mathlib.Core.List.{List, []}
+use mathlib.Core.List.{List, [], _∷_}
 use Prim.Native.Nat.{ℕ}
 use Rattle.std.specs.declared.option.Option.the-variants.{Some, None}
 use Rattle.rights.specs.declared.commands.Answer.{Answer}
@@ -66,6 +66,17 @@ Revoked-once =
     (Levelled tables → (kept : List Entry) × (struck : List Entry) × Revoked tables e entries kept struck) ×
     ((kept struck : List Entry) → Revoked tables e entries kept struck → In e kept → ⊥)
 
+-- every entry of the list has a chain in it
+abbrev pub AllUpheld : Tables → List Entry → Type 0
+AllUpheld tables entries = (e : Entry) → In e entries → Upheld tables entries e
+
+-- what a revocation keeps has chains in what is kept, and a supported grant leaves every entry with one
+abbrev pub Upheld-stays : Type 0
+Upheld-stays =
+    (tables : Tables) (e : Entry) (entries : List Entry) →
+    ((kept struck : List Entry) → Revoked tables e entries kept struck → AllUpheld tables kept) ×
+    (AllUpheld tables entries → Supported tables entries e → AllUpheld tables (e ∷ entries))
+
 pub record MandateLaws : Type 0 where
   pub cover-grows : Cover-grows
   pub cover-told : Cover-told
@@ -74,6 +85,7 @@ pub record MandateLaws : Type 0 where
   pub survivors-fixed : Survivors-fixed
   pub survivors-least : Survivors-least
   pub revoked-once : Revoked-once
+  pub upheld-stays : Upheld-stays
 
 -- a command has one answer, strikes one list, and leads to one state and history
 abbrev pub One-outcome : Type 0
