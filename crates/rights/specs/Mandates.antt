@@ -17,10 +17,10 @@ use Rattle.rights.specs.Chain.{HasChain, Revoked}
 use Rattle.rights.specs.Checks.{First}
 use Rattle.rights.specs.Cover.{Covers, Supported}
 use Rattle.rights.specs.History.{History, empty-history}
-use Rattle.rights.specs.Lists.{In}
+use Rattle.rights.specs.Lists.{In, Parted}
 use Rattle.rights.specs.Refusals.{Lent, sheet-checks}
 use Rattle.rights.specs.Runs.{Step, Call, Run}
-use Rattle.rights.specs.Tables.{Tables, Levelled}
+use Rattle.rights.specs.Tables.{Tables, unmade, Names, Levelled, Extends}
 
 -- e has a chain among these entries
 abbrev pub Upheld : Tables → List Entry → Entry → Type 0
@@ -77,6 +77,13 @@ Upheld-stays =
     ((kept struck : List Entry) → Revoked tables e entries kept struck → AllUpheld tables kept) ×
     (AllUpheld tables entries → Supported tables entries e → AllUpheld tables (e ∷ entries))
 
+-- so do the tables that are made, and one that is dropped leaves the entries on the others with theirs
+abbrev pub Upheld-tables : Type 0
+Upheld-tables =
+    (tables : Tables) (entries : List Entry) → AllUpheld tables entries →
+    ((more : Tables) → Extends tables more → AllUpheld more entries) ×
+    ((t : ℕ) (kept out : List Entry) → ((v : ℕ) → Names tables v t → ⊥) → Parted (λ (e : Entry). e .table ≡ t → ⊥) entries kept out → AllUpheld (unmade t tables) kept)
+
 pub record MandateLaws : Type 0 where
   pub cover-grows : Cover-grows
   pub cover-told : Cover-told
@@ -86,6 +93,7 @@ pub record MandateLaws : Type 0 where
   pub survivors-least : Survivors-least
   pub revoked-once : Revoked-once
   pub upheld-stays : Upheld-stays
+  pub upheld-tables : Upheld-tables
 
 -- a command has one answer, strikes one list, and leads to one state and history
 abbrev pub One-outcome : Type 0
