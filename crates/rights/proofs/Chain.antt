@@ -6,22 +6,23 @@ use mathlib.Core.Logic.{_⊎_, inl, inr, ⊎-elim}
 use mathlib.Core.List.{List, [], _∷_, _++_}
 use Prim.Native.Nat.{ℕ, zero, suc, _≤_}
 use native.Mathlib.Omega.{arith}
+use lib.Dec.{eqb}
 use lib.ListN.{length}
 use Rattle.std.specs.declared.option.Option.{Option}
 use Rattle.std.specs.declared.option.Option.the-variants.{Some, None}
 use Rattle.std.specs.Orderings.{Decides}
-use Rattle.std.proofs.shelf.Tests.{cases-bool}
+use Rattle.std.proofs.shelf.Tests.{cases-bool, eqb-false, ne-eqb}
 use Rattle.std.proofs.shelf.Ways.{not-from-decides, decides-like}
 use Rattle.rights.specs.declared.entries.Entry.{Entry}
 use Rattle.rights.specs.Chain.{Chain, HasChain, Others, Revoked}
 use Rattle.rights.specs.Cover.{Supported}
 use Rattle.rights.specs.Entries.{same-entry}
 use Rattle.rights.specs.Lists.{In, Parted}
-use Rattle.rights.specs.Tables.{Tables, Levelled}
-use Rattle.rights.proofs.Cover.{supported-grows, supported-or-not}
+use Rattle.rights.specs.Tables.{Tables, unmade, Names, Levelled, Extends}
+use Rattle.rights.proofs.Cover.{supported-grows, supported-extends, supported-apart, supported-or-not}
 use Rattle.rights.proofs.Deciding.{Among, some-test, passing, decides-in, decides-from-cases, either-way}
 use Rattle.rights.proofs.Order.{decides-same}
-use Rattle.rights.proofs.Parts.{failing, find, Sought, in-left, in-right, find-sought, failing-in, in-failing, parted-same, parted-by, kept-parted}
+use Rattle.rights.proofs.Parts.{failing, find, Sought, in-left, in-right, find-sought, failing-in, in-failing, parted-same, parted-by, parted-kept, kept-parted}
 use Rattle.rights.proofs.Within.{Or-not}
 
 -- marking by a test of support: one entry of the rest after the other, while some is supported by the marked
@@ -180,6 +181,28 @@ module _ (tables : Tables) where
   unfolding Revoked
   revoked-same named entries kept struck kept′ struck′ p q = parted-same (HasChain tables (Others entries named)) p q
 
+  -- what is kept has a chain in what is kept
+  pub kept-upheld : (named : Entry) (entries kept struck : List Entry) → Revoked tables named entries kept struck → (e : Entry) → In e kept → HasChain tables (λ f. In f kept) e
+  unfolding Revoked
+  kept-upheld named entries kept struck p e i =
+      has-chain-least Standing Both step e (kept-parted (HasChain tables Standing) p e i .1) .1
+    where
+      Standing : Entry → Type 0
+      Standing = Others entries named
+
+      Both : Entry → Type 0
+      Both f = HasChain tables Standing f × HasChain tables (λ g. In g kept) f
+
+      step : (f : Entry) → Standing f → (l : List Entry) → ((g : Entry) → In g l → Both g) → Supported tables l f → Both f
+      step f s l h u =
+          let c = supported-has-chain Standing f s l (λ g j. h g j .0) u in
+          (c, supported-has-chain (λ g. In g kept) f (parted-kept (HasChain tables Standing) p f (s .0) c) l (λ g j. h g j .1) u)
+
+  -- a grant that is supported has a chain, and takes none away
+  pub granted-upheld : (entries : List Entry) (e : Entry) → ((f : Entry) → In f entries → HasChain tables (λ g. In g entries) f) → Supported tables entries e → (f : Entry) → In f (e ∷ entries) → HasChain tables (λ g. In g (e ∷ entries)) f
+  granted-upheld entries e all u f (inl q) = subst (HasChain tables (λ g. In g (e ∷ entries))) (sym q) (supported-has-chain (λ g. In g (e ∷ entries)) e (inl refl) entries (λ g j. has-chain-grows (λ x. In x entries) (λ x. In x (e ∷ entries)) (λ _ k. inr k) g (all g j)) u)
+  granted-upheld entries e all u f (inr i) = has-chain-grows (λ x. In x entries) (λ x. In x (e ∷ entries)) (λ _ k. inr k) f (all f i)
+
   -- the named entry is always struck
   pub revoked-named : (named : Entry) (entries kept struck : List Entry) → Revoked tables named entries kept struck → In named kept → ⊥
   unfolding Revoked
@@ -199,3 +222,31 @@ module _ (tables : Tables) (levels : Levelled tables) where
 
   pub revoked-total : (named : Entry) (entries : List Entry) → (kept : List Entry) × (struck : List Entry) × Revoked tables named entries kept struck
   revoked-total named entries = (_, _, revoked-by tables support-test support-judges named entries)
+
+-- chains stay when tables are made
+module _ (tables more : Tables) (keeps : Extends tables more) (Standing : Entry → Type 0) where
+  chain-extends : (l : List Entry) → Chain tables Standing l → Chain more Standing l
+  chain-extends [] c = tt
+  chain-extends (e ∷ l) c = (c .0, supported-extends tables more keeps l e (c .1), chain-extends l (c .2))
+
+  pub has-chain-extends : (e : Entry) → HasChain tables Standing e → HasChain more Standing e
+  unfolding HasChain
+  has-chain-extends e c = (c .0, chain-extends (e ∷ c .0) (c .1))
+
+-- and those of entries on other tables when one is dropped that no view names
+pub dropped-upheld : (tables : Tables) (t : ℕ) → ((v : ℕ) → Names tables v t → ⊥) → (entries kept out : List Entry) → Parted (λ (e : Entry). e .table ≡ t → ⊥) entries kept out → ((e : Entry) → In e entries → HasChain tables (λ f. In f entries) e) → (e : Entry) → In e kept → HasChain (unmade t tables) (λ f. In f kept) e
+dropped-upheld tables t free entries kept out p all e i =
+    let k = kept-parted (λ (e : Entry). e .table ≡ t → ⊥) p e i in
+    has-chain-least tables (λ f. In f entries) Left step e (all e (k .0)) (k .1)
+  where
+    Left : Entry → Type 0
+    Left f = (f .table ≡ t → ⊥) → HasChain (unmade t tables) (λ g. In g kept) f
+
+    there : Entry → Bool
+    there f = eqb (f .table) t
+
+    step : (f : Entry) → In f entries → (l : List Entry) → ((g : Entry) → In g l → Left g) → Supported tables l f → Left f
+    step f s l h u apart =
+        supported-has-chain (unmade t tables) (λ g. In g kept) f (parted-kept (λ (e : Entry). e .table ≡ t → ⊥) p f s apart) (failing there l)
+        (λ g j. let r = failing-in there l g j in h g (r .0) (eqb-false (g .table) t (r .1)))
+        (supported-apart tables t free l (failing there l) (λ g j n. in-failing there l g j (ne-eqb (g .table) t n)) f u apart)

@@ -7,7 +7,7 @@ use Prim.Native.Nat.{ℕ}
 use native.Mathlib.Omega.{arith}
 use Rattle.std.proofs.shelf.Ways.{not-from-decides}
 use Rattle.rights.specs.declared.entries.Entry.{Entry}
-use Rattle.rights.specs.Contrasts.{Example, commands-of, struck-of, answers-of, Shows, delegates, every-named, one-entry, EachOther, Itself, owned-five}
+use Rattle.rights.specs.Contrasts.{Example, commands-of, struck-of, answers-of, Shows, delegates, oneself, every-named, one-entry, EachOther, Itself, owned-five}
 use Rattle.rights.specs.Cover.{Supported}
 use Rattle.rights.specs.Read.{admin-entry}
 use Rattle.rights.specs.Tables.{no-tables, over-none}
@@ -22,6 +22,10 @@ shown x = leads (commands-of x) (struck-of x) (answers-of x)
 pub shows-delegates : Shows delegates
 unfolding computed
 shows-delegates = shown delegates refl refl
+
+pub shows-oneself : Shows oneself
+unfolding computed
+shows-oneself = shown oneself refl refl
 
 pub shows-every-named : Shows every-named
 unfolding computed

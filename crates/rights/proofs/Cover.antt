@@ -1,6 +1,6 @@
 -- Laws of cover: it grows with the entries, what it comes from at one table, and its test where tables have levels.
 use mathlib.Core.Path.{_≡_, refl, sym, ap, subst, _∙_}
-use mathlib.Core.Bool.{Bool, true, false, _&&_, _||_}
+use mathlib.Core.Bool.{Bool, true, false, cond, _&&_, _||_}
 use mathlib.Core.Logic.{_⊎_, inl, inr, ⊎-elim}
 use mathlib.Core.List.{List, [], _∷_}
 use Prim.Native.Nat.{ℕ, zero, suc, _≤_}
@@ -9,7 +9,7 @@ use lib.Dec.{eqb, leb}
 use Rattle.std.specs.declared.option.Option.{Option}
 use Rattle.std.specs.declared.option.Option.the-variants.{Some, None}
 use Rattle.std.specs.Orderings.{Decides}
-use Rattle.std.proofs.shelf.Tests.{both-ways, false≢true}
+use Rattle.std.proofs.shelf.Tests.{false≢true, ne-eqb}
 use Rattle.std.proofs.shelf.Ways.{decides-eqb, decides-and, decides-or, decides-like}
 use Rattle.rights.specs.declared.entries.Entry.{Entry}
 use Rattle.rights.specs.declared.vocabulary.Kind.{Kind}
@@ -19,7 +19,7 @@ use Rattle.rights.specs.declared.vocabulary.Right.{Right}
 use Rattle.rights.specs.Cover.{Lends, Covers, by-owning, by-entry, by-names, privilege-in, kind-needed, rank-needed, Supported}
 use Rattle.rights.specs.Lists.{In}
 use Rattle.rights.specs.Numbers.{kind-number, rank-number, privilege-number}
-use Rattle.rights.specs.Tables.{Table, Tables, IsBase, IsView, Owns, Names, Levelled}
+use Rattle.rights.specs.Tables.{Table, Tables, unmade, IsBase, IsView, Owns, Names, Levelled, Extends}
 use Rattle.rights.proofs.Deciding.{Among, some-test, each-test, decides-some, decides-each, either-way}
 use Rattle.rights.proofs.Parts.{decides-leb}
 use Rattle.rights.proofs.Tables.{Low, low-named, low-names-none, levels-of, some-same}
@@ -140,6 +140,36 @@ module _ (tables : Tables) where
     -- cover is decidable where every table that stands has a level
     pub covers-or-not : Levelled tables → (t : ℕ) → Or-not (Covers tables entries x k r p t)
     covers-or-not levels t = let l = levels-of tables levels t in either-way (covers-test (l .0) t) (decides-covers (l .0) t (l .1))
+
+-- more tables, more is covered
+pub covers-extends : (tables more : Tables) → Extends tables more → (entries : List Entry) {x : ℕ} {k : Kind} {r : Rank} {p : Privilege} {t : ℕ} → Covers tables entries x k r p t → Covers more entries x k r p t
+covers-extends tables more keeps entries (by-owning {t = t} b o) = by-owning (b .0, keeps t (b .0) (b .1), b .2) (o .0, keeps t (o .0) (o .1), o .2)
+covers-extends tables more keeps entries (by-entry e i l) = by-entry e i l
+covers-extends tables more keeps entries {x} {k} {r} {p} (by-names {t = t} v o all) =
+    by-names (v .0, keeps t (v .0) (v .1), v .2) (o .0, keeps t (o .0) (o .1), o .2)
+    (λ d n. covers-extends tables more keeps entries (all d (v .0, v .1, subst (λ (w : Table). In d (w .names)) (some-same (n .0) (v .0) (sym (n .1) ∙ keeps t (v .0) (v .1))) (n .2))))
+
+pub supported-extends : (tables more : Tables) → Extends tables more → (entries : List Entry) (e : Entry) → Supported tables entries e → Supported more entries e
+unfolding Supported
+supported-extends tables more keeps entries e s = covers-extends tables more keeps entries s
+
+-- where no view names t, cover on another table does not come from t or from entries on it
+module _ (tables : Tables) (t : ℕ) (free : (v : ℕ) → Names tables v t → ⊥) where
+  pub covers-apart : (es fs : List Entry) → ((e : Entry) → In e es → (e .table ≡ t → ⊥) → In e fs) → {x : ℕ} {k : Kind} {r : Rank} {p : Privilege} {d : ℕ} → Covers tables es x k r p d → (d ≡ t → ⊥) → Covers (unmade t tables) fs x k r p d
+  covers-apart es fs others (by-owning {t = d} b o) apart = by-owning (b .0, at d apart ∙ b .1, b .2) (o .0, at d apart ∙ o .1, o .2)
+    where
+      at : (d : ℕ) → (d ≡ t → ⊥) → unmade t tables d ≡ tables d
+      at d apart = ap (λ b. cond b None (tables d)) (ne-eqb d t apart)
+  covers-apart es fs others (by-entry {t = d} e i l) apart = by-entry e (others e i (λ q. apart (sym (l .1) ∙ q))) l
+  covers-apart es fs others (by-names {t = d} v o all) apart =
+      by-names (v .0, at ∙ v .1, v .2) (o .0, at ∙ o .1, o .2) (λ c n. covers-apart es fs others (all c (n .0, sym at ∙ n .1, n .2)) (λ q. free d (n .0, sym at ∙ n .1, subst (λ y. In y (n .0 .names)) q (n .2))))
+    where
+      at : unmade t tables d ≡ tables d
+      at = ap (λ b. cond b None (tables d)) (ne-eqb d t apart)
+
+  pub supported-apart : (es fs : List Entry) → ((e : Entry) → In e es → (e .table ≡ t → ⊥) → In e fs) → (e : Entry) → Supported tables es e → (e .table ≡ t → ⊥) → Supported (unmade t tables) fs e
+  unfolding Supported
+  supported-apart es fs others e s apart = covers-apart es fs others s apart
 
 -- the test of whether e's grantor has the cover that e needs, on a table of level at most n
 abbrev pub supported-test : Tables → ℕ → List Entry → Entry → Bool

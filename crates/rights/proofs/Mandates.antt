@@ -11,7 +11,7 @@ use Rattle.rights.specs.Lists.{In}
 use Rattle.rights.specs.Mandates.{MandateLaws, RunLaws, Survivors-fixed, Refused-first, Run-found}
 use Rattle.rights.specs.Refusals.{sheet-checks}
 use Rattle.rights.specs.Runs.{Step, refused}
-use Rattle.rights.proofs.Chain.{has-chain-grows, has-chain-stands, has-chain-supported, supported-has-chain, closed-round, chain-or-not, revoked-same, revoked-total, revoked-named}
+use Rattle.rights.proofs.Chain.{has-chain-grows, has-chain-stands, has-chain-supported, supported-has-chain, closed-round, chain-or-not, revoked-same, revoked-total, revoked-named, kept-upheld, granted-upheld, has-chain-extends, dropped-upheld}
 use Rattle.rights.proofs.Cover.{covers-grows, supported-grows, covers-or-not}
 use Rattle.rights.proofs.Outcomes.{outcomes, run-by, empty-sound}
 use Rattle.rights.proofs.Runs.{step-same, run-same, refused-first, accepted-first, first-accepted}
@@ -35,6 +35,8 @@ mandate-laws =
       survivors-fixed = fixed;
       survivors-least = λ tables entries. closed-round tables (λ f. In f entries);
       revoked-once = λ tables e entries. (revoked-same tables e entries, (λ levels. revoked-total tables levels e entries), revoked-named tables e entries);
+      upheld-stays = λ tables e entries. (kept-upheld tables e entries, granted-upheld tables entries e);
+      upheld-tables = λ tables entries all. ((λ more keeps e i. has-chain-extends tables more keeps (λ f. In f entries) e (all e i)), λ t kept out free p. dropped-upheld tables t free entries kept out p all);
     }
 
 refusals : Refused-first

@@ -1,5 +1,5 @@
--- Short examples that tell the rules of cover and chains from what they could be mistaken for. Each is a run from the empty history,
--- or a fact of chains, that comes out otherwise under the mistaken rule.
+-- Short examples that tell the rules of cover and chains from what they could be mistaken for. Each is a run
+-- from the empty history, or a fact of chains, that comes out otherwise under the mistaken rule.
 use mathlib.Core.Path.{_≡_}
 use mathlib.Core.List.{List, [], _∷_, _++_}
 use lib.Dec.{lit≤}
@@ -45,6 +45,16 @@ delegates =
       then = Command.Unlend 1 2 0 5 1 1 ∷ [];
       struck = (admin-entry 1 2 0 5 1 1 ∷ admin-entry 3 2 0 5 1 1 ∷ admin-entry 2 3 0 5 1 1 ∷ []) ∷ [];
       answers = Answer.Struck 3 ∷ [];
+    }
+
+-- person 2 lent to himself what the owner had lent to him; when the owner withdraws it, both are struck
+abbrev pub oneself : Example
+oneself =
+    record {
+      first = Command.Base 1 5 ∷ Command.Lend 1 2 0 5 1 1 ∷ Command.Lend 2 2 0 5 1 1 ∷ [];
+      then = Command.Unlend 1 2 0 5 1 1 ∷ [];
+      struck = (admin-entry 1 2 0 5 1 1 ∷ admin-entry 2 2 0 5 1 1 ∷ []) ∷ [];
+      answers = Answer.Struck 2 ∷ [];
     }
 
 -- two entries that support each other have no chain, nor has one that supports itself

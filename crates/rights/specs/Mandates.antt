@@ -2,7 +2,7 @@
 -- MandateLaws: cover and chains. RunLaws: commands and their outcomes. Upheld: an entry with a chain in a list.
 use mathlib.Core.Path.{_≡_}
 use mathlib.Core.Logic.{_⊎_, _↔_}
-use mathlib.Core.List.{List, []}
+use mathlib.Core.List.{List, [], _∷_}
 use Prim.Native.Nat.{ℕ}
 use Rattle.std.specs.declared.option.Option.the-variants.{Some, None}
 use Rattle.rights.specs.declared.commands.Answer.{Answer}
@@ -17,10 +17,10 @@ use Rattle.rights.specs.Chain.{HasChain, Revoked}
 use Rattle.rights.specs.Checks.{First}
 use Rattle.rights.specs.Cover.{Covers, Supported}
 use Rattle.rights.specs.History.{History, empty-history}
-use Rattle.rights.specs.Lists.{In}
+use Rattle.rights.specs.Lists.{In, Parted}
 use Rattle.rights.specs.Refusals.{Lent, sheet-checks}
 use Rattle.rights.specs.Runs.{Step, Call, Run}
-use Rattle.rights.specs.Tables.{Tables, Levelled}
+use Rattle.rights.specs.Tables.{Tables, unmade, Names, Levelled, Extends}
 
 -- e has a chain among these entries
 abbrev pub Upheld : Tables → List Entry → Entry → Type 0
@@ -66,6 +66,24 @@ Revoked-once =
     (Levelled tables → (kept : List Entry) × (struck : List Entry) × Revoked tables e entries kept struck) ×
     ((kept struck : List Entry) → Revoked tables e entries kept struck → In e kept → ⊥)
 
+-- every entry of the list has a chain in it
+abbrev pub AllUpheld : Tables → List Entry → Type 0
+AllUpheld tables entries = (e : Entry) → In e entries → Upheld tables entries e
+
+-- what a revocation keeps has chains in what is kept, and a supported grant leaves every entry with one
+abbrev pub Upheld-stays : Type 0
+Upheld-stays =
+    (tables : Tables) (e : Entry) (entries : List Entry) →
+    ((kept struck : List Entry) → Revoked tables e entries kept struck → AllUpheld tables kept) ×
+    (AllUpheld tables entries → Supported tables entries e → AllUpheld tables (e ∷ entries))
+
+-- so do the tables that are made, and one that is dropped leaves the entries on the others with theirs
+abbrev pub Upheld-tables : Type 0
+Upheld-tables =
+    (tables : Tables) (entries : List Entry) → AllUpheld tables entries →
+    ((more : Tables) → Extends tables more → AllUpheld more entries) ×
+    ((t : ℕ) (kept out : List Entry) → ((v : ℕ) → Names tables v t → ⊥) → Parted (λ (e : Entry). e .table ≡ t → ⊥) entries kept out → AllUpheld (unmade t tables) kept)
+
 pub record MandateLaws : Type 0 where
   pub cover-grows : Cover-grows
   pub cover-told : Cover-told
@@ -74,6 +92,8 @@ pub record MandateLaws : Type 0 where
   pub survivors-fixed : Survivors-fixed
   pub survivors-least : Survivors-least
   pub revoked-once : Revoked-once
+  pub upheld-stays : Upheld-stays
+  pub upheld-tables : Upheld-tables
 
 -- a command has one answer, strikes one list, and leads to one state and history
 abbrev pub One-outcome : Type 0

@@ -1,7 +1,7 @@
 // Theorems about the rules: what each function is for stands in its contract alone.
 ghost use mathlib.Core.Path.{_≡_};
 ghost use lib.ListN.{length};
-ghost use Rattle.rights.specs.Contrasts.{Shows, delegates, EachOther, Itself, every-named, one-entry};
+ghost use Rattle.rights.specs.Contrasts.{Shows, delegates, oneself, EachOther, Itself, every-named, one-entry};
 ghost use Rattle.rights.specs.Laws.{AccessLaws};
 ghost use Rattle.rights.specs.Mandates.{MandateLaws, RunLaws};
 ghost use Rattle.rights.specs.Scenes.{Examples-answered, examples};
@@ -28,12 +28,14 @@ pub fn access_laws() -> u8
 }
 
 // The laws of cover, chains and runs, and short examples that come out otherwise under rules that
-// could be mistaken for these: delegates who lent to each other, entries that support each other or
-// themselves, a view of which one table is covered, kind and rank from two entries.
+// could be mistaken for these: delegates who lent to each other or to themselves, entries that
+// support each other or themselves, a view of which one table is covered, kind and rank from two
+// entries.
 fn mandates()
     ensures laws { λ _. ⌜ MandateLaws ⌝ }
     ensures runs { λ _. ⌜ RunLaws ⌝ }
     ensures delegates { λ _. ⌜ Shows delegates ⌝ }
+    ensures oneself { λ _. ⌜ Shows oneself ⌝ }
     ensures circle { λ _. ⌜ EachOther ⌝ }
     ensures alone { λ _. ⌜ Itself ⌝ }
     ensures covered { λ _. ⌜ Shows every-named ⌝ }
@@ -45,14 +47,15 @@ pub fn mandate_laws() -> u8
     ensures laws { λ _. ⌜ MandateLaws ⌝ }
     ensures runs { λ _. ⌜ RunLaws ⌝ }
     ensures delegates { λ _. ⌜ Shows delegates ⌝ }
+    ensures oneself { λ _. ⌜ Shows oneself ⌝ }
     ensures circle { λ _. ⌜ EachOther ⌝ }
     ensures alone { λ _. ⌜ Itself ⌝ }
     ensures covered { λ _. ⌜ Shows every-named ⌝ }
     ensures ranked { λ _. ⌜ Shows one-entry ⌝ }
-    ensures many { λ r. ⌜ r ≡ 5 ⌝ }
+    ensures many { λ r. ⌜ r ≡ 6 ⌝ }
 {
     mandates();
-    let runs: u8 = 3;
+    let runs: u8 = 4;
     let facts: u8 = 2;
     runs + facts
 }
