@@ -2,7 +2,9 @@
 use mathlib.Core.Path.{_≡_, refl, sym, ap, subst, _∙_}
 use mathlib.Core.Bool.{Bool, true, false, cond}
 use mathlib.Core.Logic.{_⊎_, inl, inr, ⊎-elim}
-use mathlib.Core.List.{List, [], _∷_}
+use mathlib.Core.List.{List, [], _∷_, _++_}
+use Prim.Native.Nat.{ℕ}
+use native.Mathlib.Omega.{arith}
 use Rattle.std.specs.Orderings.{Decides}
 use Rattle.std.specs.declared.option.Option.{Option}
 use Rattle.std.specs.declared.option.Option.the-variants.{Some, None}
@@ -10,6 +12,9 @@ use Rattle.std.proofs.shelf.Ways.{not-from-decides}
 use Rattle.rights.specs.Checks.{Check, First}
 
 module _ {F : Type 0} where
+  pub some-none : (f : F) → Some f ≡ None → ⊥
+  some-none f e = let z : _≡_ {A = ℕ} 0 1 = cc in omega arith
+
   pub first-none : (r : Option F) → r ≡ None → First [] r
   unfolding First
   first-none r e = e
@@ -77,3 +82,17 @@ module _ {F : Type 0} where
       (λ k. subst (First (d ∷ ds)) (sym (k .1 ∙ ap Some (a .0))) (first-hit d ds (a .1 (k .0))))
       (λ k. first-miss d ds r (λ p. k .0 (a .2 p)) (first-alike cs ds r (a .3) (k .1)))
       (first-cases c cs r h)
+
+  -- an answer of the first checks is one of them all
+  pub first-early : (cs ds : List (Check F)) (f : F) → First cs (Some f) → First (cs ++ ds) (Some f)
+  unfolding First
+  first-early [] ds f h = absurd (some-none f h)
+  first-early (c ∷ cs) ds f (inl h) = inl h
+  first-early (c ∷ cs) ds f (inr h) = inr (h .0, first-early cs ds f (h .1))
+
+  -- where none of the first applies, the others decide
+  pub first-late : (cs ds : List (Check F)) (r : Option F) → First cs None → First ds r → First (cs ++ ds) r
+  unfolding First
+  first-late [] ds r h k = k
+  first-late (c ∷ cs) ds r (inl h) k = absurd (some-none (c .gives) (sym (h .1)))
+  first-late (c ∷ cs) ds r (inr h) k = inr (h .0, first-late cs ds r (h .1) k)

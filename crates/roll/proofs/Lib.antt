@@ -4,7 +4,6 @@ pub mod Sounds
 pub mod Places
 pub mod Walks
 pub mod Spreads
-pub mod Firsts
 pub mod Makings
 pub mod Moves
 pub mod Gaps

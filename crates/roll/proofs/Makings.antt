@@ -9,7 +9,7 @@ use Rattle.std.proofs.shelf.Tests.{cases-lt}
 use Rattle.rights.specs.declared.faults.RollFault.{RollFault}
 use Rattle.rights.specs.Checks.{First}
 use Rattle.roll.specs.Refusals.{make-checks, Granted}
-use Rattle.roll.proofs.Firsts.{some-none, first-unique}
+use Rattle.rights.proofs.Checks.{some-none, first-unique}
 
 module _ (places wanted : ℕ) where
   pub granted-fits : First (make-checks places wanted) None → Granted places wanted wanted

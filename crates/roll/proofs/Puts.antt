@@ -10,7 +10,7 @@ use Rattle.rights.specs.Checks.{Check, First, refuse}
 use Rattle.rights.specs.Pairs.{pair}
 use Rattle.rights.specs.Within.{Within}
 use Rattle.roll.specs.Refusals.{fresh-checks, loop-checks, full-checks, put-checks}
-use Rattle.roll.proofs.Firsts.{first-hit, first-miss, first-none, first-early, first-late}
+use Rattle.rights.proofs.Checks.{first-hit, first-miss, first-none, first-early, first-late}
 
 module _ (K : List Pair) (m g : ℕ) where
   pub put-early : (f : RollFault) → First (fresh-checks K m g) (Some f) → First (loop-checks K m g) (Some f)

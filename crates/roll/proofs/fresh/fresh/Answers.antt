@@ -2,7 +2,7 @@ use mathlib.Core.Path.{refl, sym, subst}
 use Rattle.rights.specs.Lists.{In}
 use Rattle.rights.specs.Pairs.{Proper}
 use Rattle.std.proofs.shelf.Ways.{not-from-decides}
-use Rattle.roll.proofs.Firsts.{first-hit, first-miss, first-none}
+use Rattle.rights.proofs.Checks.{first-hit, first-miss, first-none}
 use Rattle.roll.proofs.fresh.fresh.Needs as need
 
 pub returns-in-rest : need.returns-in-rest

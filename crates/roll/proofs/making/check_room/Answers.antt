@@ -1,7 +1,7 @@
 use mathlib.Core.Path.{refl}
 use mathlib.Core.Logic.{inl, inr, ⊎-elim}
 use native.Mathlib.Omega.{arith}
-use Rattle.roll.proofs.Firsts.{first-hit, first-miss, first-none}
+use Rattle.rights.proofs.Checks.{first-hit, first-miss, first-none}
 use Rattle.roll.proofs.making.check_room.Needs as need
 
 pub returns-then-places-ceiling : need.returns-then-places-ceiling

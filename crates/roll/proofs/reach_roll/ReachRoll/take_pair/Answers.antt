@@ -5,7 +5,7 @@ use Rattle.roll.specs.Kept.{stored, held-sure}
 use Rattle.roll.specs.Pairs.{dropped}
 use Rattle.roll.specs.Tables.{Current, Renewed}
 use Rattle.roll.proofs.Currents.{current-renewed}
-use Rattle.roll.proofs.Firsts.{first-hit}
+use Rattle.rights.proofs.Checks.{first-hit}
 use Rattle.roll.proofs.reach_roll.ReachRoll.take_pair.Needs as need
 
 pub returns-in-rest : need.returns-in-rest

@@ -2,7 +2,7 @@ use mathlib.Core.Path.{_≡_, refl, sym, subst, _∙_}
 use native.Mathlib.Omega.{arith}
 use Rattle.roll.specs.Kept.{stored}
 use Rattle.roll.specs.Sound.{Sound}
-use Rattle.roll.proofs.Firsts.{first-hit, first-miss, first-none}
+use Rattle.rights.proofs.Checks.{first-hit, first-miss, first-none}
 use Rattle.roll.proofs.Keeping.{length-stored}
 use Rattle.roll.proofs.Sounds.{sound-added}
 use Rattle.roll.proofs.store.Store.add.Needs as need

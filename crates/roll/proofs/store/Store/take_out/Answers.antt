@@ -4,7 +4,7 @@ use Rattle.rights.specs.Lists.{In}
 use Rattle.rights.specs.Pairs.{pair}
 use Rattle.roll.specs.Kept.{stored}
 use Rattle.roll.specs.Sound.{Sound}
-use Rattle.roll.proofs.Firsts.{first-hit, first-miss, first-none}
+use Rattle.rights.proofs.Checks.{first-hit, first-miss, first-none}
 use Rattle.roll.proofs.Lists.{dropped-at}
 use Rattle.roll.proofs.Moves.{sound-removed}
 use Rattle.roll.proofs.Places.{in-at}
