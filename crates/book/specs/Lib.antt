@@ -1,0 +1,3 @@
+pub mod Effects
+pub mod Places
+pub mod Standing
