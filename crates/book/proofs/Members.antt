@@ -33,6 +33,9 @@ in-getD [] k d h = omega arith
 in-getD (x ∷ xs) zero d h = inl refl
 in-getD (x ∷ xs) (suc k) d h = inr (in-getD xs k d (omega arith))
 
+pub stands-in : {X : Type 0} (x : X) (xs : List X) (k : ℕ) → k < length xs → getD xs k x ≡ x → In x xs
+stands-in x xs k h at = subst (λ y. In y xs) at (in-getD xs k x h)
+
 not-before : (e f : Entry) → before e f ≡ false → Before e f → ⊥
 not-before e f no-test h = not-from-decides _ (decides-before e f) no-test h
 

@@ -16,5 +16,3 @@ apart a b other = decides-like _ inl (⊎-elim (λ h. h) (λ h. absurd (other (h
 -- equal numbers leave it to the rest
 pub level : (a b : ℕ) (r : Bool) {R : Type 0} → a ≡ b → Decides r R → Decides r (Then a b R)
 level a b r same = decides-like r (λ h. inr (same, h)) (⊎-elim (λ h. absurd (omega (arith, h, same))) (λ h. h .1))
-
-

@@ -9,6 +9,8 @@ ghost use Rattle.rights.specs.Entries.{sound};
 
 mod calls;
 
+pub use calls::PlainBook;
+
 // The first `count` records of the list stand; there is room for the ceiling.
 pub struct Plain<'a> {
     list: &'a mut [Entry],

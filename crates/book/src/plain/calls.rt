@@ -1,4 +1,5 @@
 // The calls of the plain book.
+use crate::making::ceiling;
 use crate::meaning::Book;
 use crate::order::proper;
 use crate::places::find;
@@ -8,14 +9,32 @@ use rights::Entry;
 ghost use mathlib.Core.Path.{_≡_};
 ghost use mathlib.Core.Bool.{cond};
 ghost use mathlib.Core.List.{[]};
-ghost use denote.Ref.{now};
 ghost use Prim.Native.Nat.{_<_};
-ghost use lib.ListN.{take, drop};
+ghost use lib.ListN.{length};
+ghost use Rattle.std.specs.Results.{isOk};
 ghost use Rattle.std.specs.shelf.Lists.{inserted, removed};
+ghost use Rattle.rights.specs.Checks.{First, fault-of};
 ghost use Rattle.rights.specs.Entries.{Proper};
 ghost use Rattle.rights.specs.Lists.{In};
+ghost use Rattle.book.specs.Effects.{with-entry, without-entry, put-checks, take-checks, Ceiling};
 ghost use Rattle.book.specs.Places.{Parts, Finding};
-ghost use Rattle.book.specs.Standing.{standing, plain-laws};
+ghost use Rattle.book.specs.Standing.{standing, SameRest, plain-laws};
+
+impl<'a> Plain<'a> {
+    // An empty book over the list, with the ceiling wanted, or with ceiling 0 where the check refuses.
+    pub fn new(list: &'a mut [Entry], wanted: usize) -> Plain<'a>
+        ensures empty { λ r. ⌜ standing r ≡ [] ⌝ }
+        ensures ceiling { λ r. ⌜ Ceiling (length (now (list .entry))) wanted (r .ceiling) ⌝ }
+        ensures untouched { λ r. ⌜ now (r .list) ≡ now (list .entry) ⌝ }
+    {
+        let ceiling = ceiling(list.len(), wanted);
+        Plain {
+            list,
+            count: 0,
+            ceiling,
+        }
+    }
+}
 
 impl Plain<'_> {
     // The place where e stands, or else the place where it belongs.
@@ -33,7 +52,7 @@ impl Plain<'_> {
         requires room { ⌜ now self .count < now self .ceiling ⌝ }
         ensures entries { λ _. ⌜ standing (now (self .exit)) ≡ inserted (standing (now (self .entry))) k e ⌝ }
         ensures ceiling { λ _. ⌜ now (self .exit) .ceiling ≡ now (self .entry) .ceiling ⌝ }
-        ensures rest { λ _. ⌜ drop (now (self .exit) .count) (now (now (self .exit) .list)) ≡ drop (now (self .exit) .count) (now (now (self .entry) .list)) ⌝ }
+        ensures rest { λ _. ⌜ SameRest (now (self .entry)) (now (self .exit)) ⌝ }
     {
         let count = self.count;
         let mut moved = e;
@@ -51,7 +70,7 @@ impl Plain<'_> {
         requires { ⌜ k < now self .count ⌝ }
         ensures entries { λ _. ⌜ standing (now (self .exit)) ≡ removed (standing (now (self .entry))) k ⌝ }
         ensures ceiling { λ _. ⌜ now (self .exit) .ceiling ≡ now (self .entry) .ceiling ⌝ }
-        ensures rest { λ _. ⌜ drop (now (self .exit) .count) (now (now (self .exit) .list)) ≡ drop (now (self .exit) .count) (now (now (self .entry) .list)) ⌝ }
+        ensures rest { λ _. ⌜ SameRest (now (self .entry)) (now (self .exit)) ⌝ }
     {
         let last = self.count - 1;
         let mut moved = self.list[last];
@@ -91,7 +110,12 @@ pub impl Book for Plain<'_> as PlainBook {
         }
     }
 
-    fn put(&mut self, e: Entry) -> Result<(), BookFault> {
+    fn put(&mut self, e: Entry) -> Result<(), BookFault>
+        ensures refuses { λ r. ⌜ First (put-checks (standing (now (self .entry))) (now (self .entry) .ceiling) e) (fault-of r) ⌝ }
+        ensures after { λ r. ⌜ standing (now (self .exit)) ≡ cond (isOk r) (with-entry e (standing (now (self .entry)))) (standing (now (self .entry))) ⌝ }
+        ensures ceiling { λ _. ⌜ now (self .exit) .ceiling ≡ now (self .entry) .ceiling ⌝ }
+        ensures rest { λ _. ⌜ SameRest (now (self .entry)) (now (self .exit)) ⌝ }
+    {
         if !proper(&e) {
             return Err(BookFault::BadNumber);
         }
@@ -105,7 +129,12 @@ pub impl Book for Plain<'_> as PlainBook {
         Ok(())
     }
 
-    fn take(&mut self, e: Entry) -> Result<(), BookFault> {
+    fn take(&mut self, e: Entry) -> Result<(), BookFault>
+        ensures refuses { λ r. ⌜ First (take-checks (standing (now (self .entry))) e) (fault-of r) ⌝ }
+        ensures after { λ r. ⌜ standing (now (self .exit)) ≡ cond (isOk r) (without-entry e (standing (now (self .entry)))) (standing (now (self .entry))) ⌝ }
+        ensures ceiling { λ _. ⌜ now (self .exit) .ceiling ≡ now (self .entry) .ceiling ⌝ }
+        ensures rest { λ _. ⌜ SameRest (now (self .entry)) (now (self .exit)) ⌝ }
+    {
         if !proper(&e) {
             return Err(BookFault::BadNumber);
         }

@@ -11,13 +11,12 @@ returns-then-not-precedes c =
     (h, parts-equal (c .args .e) (c .args .list .now) _ _ (c .pre) h (c .place-k .ensures) (λ k. false≢true (c .if-not-precedes .ensures tt .1 k)))
 
 pub returns-else-k-list : need.returns-else-k-list
-returns-else-k-list c =
-    (
-      (λ i.
-          let h = parts-stands (c .args .e) (c .args .list .now) (c .place-k .result) (c .pre) (c .place-k .ensures) i in
-          elim (c .else-k-list .came) [
-            else-k-list·by·then-k-list·else-not-precedes w ↦ not-equal (c .args .e) (c .args .list .now) _ _ (c .pre) (h .0) (w .if-not-precedes .ensures tt .0 refl) (h .1)
-            | else-k-list·by·else-k-list w ↦ omega (arith, w .if-k-list)
-          ]),
-      c .place-k .ensures
-    )
+returns-else-k-list c = (
+  (λ i.
+      let h = parts-stands (c .args .e) (c .args .list .now) (c .place-k .result) (c .pre) (c .place-k .ensures) i in
+      elim (c .else-k-list .came) [
+        | else-k-list·by·then-k-list·else-not-precedes w ↦ not-equal (c .args .e) (c .args .list .now) _ _ (c .pre) (h .0) (w .if-not-precedes .ensures tt .0 refl) (h .1)
+        | else-k-list·by·else-k-list w ↦ omega (arith, w .if-k-list)
+      ]),
+  c .place-k .ensures,
+)

@@ -43,8 +43,7 @@ ghost-self c =
     let kept = c .loop-i .inv in
     let more = long b (c .args .e) (c .args .k) (c .pre .fits) (c .pre .new) in
     let next = step-up (b .list .now) (b .count) (s .list .now) _ (c .loop-i .i) (c .loop-i .moved) (c .args .e) (omega (arith, b .counted, b .room)) more (c .loop-i-test .taken) (kept .2) in
-    let still : s .ceiling ≤ length (set (s .list .now) (c .loop-i .i) (c .loop-i .moved)) = omega (arith, s .room, length-set (s .list .now) (c .loop-i .i) (c .loop-i .moved)) in
-    (
+    let still : s .ceiling ≤ length (set (s .list .now) (c .loop-i .i) (c .loop-i .moved)) = omega (arith, s .room, length-set (s .list .now) (c .loop-i .i) (c .loop-i .moved)) in (
       s .counted,
       (
         still,
@@ -52,11 +51,11 @@ ghost-self c =
           s .limited,
           (
             ap (λ m. sound (take m (set (s .list .now) (c .loop-i .i) (c .loop-i .moved)))) (kept .0) ∙ ap sound (next .front)
-            ∙ sound-removed _ (c .loop-i .i + 1) (rising b (c .args .e) (c .args .k) (c .pre .fits) (c .pre .new)) (all-proper b (c .args .e) (c .args .k) (c .pre .fits) (c .pre .new) (c .pre .proper)),
-            tt
-          )
-        )
-      )
+                ∙ sound-removed _ (c .loop-i .i + 1) (rising b (c .args .e) (c .args .k) (c .pre .fits) (c .pre .new)) (all-proper b (c .args .e) (c .args .k) (c .pre .fits) (c .pre .new) (c .pre .proper)),
+            tt,
+          ),
+        ),
+      ),
     )
 
 pub loop-i-again : need.loop-i-again
@@ -81,8 +80,7 @@ ghost-self-2 c =
     let i-is : c .loop-i .i ≡ b .count = omega (arith, c .pre .fits .within, c .loop-i-test .left, c .loop-i .kept .i-end) in
     let full = gap-filled (b .list .now) (b .count) (s .list .now) _ (c .loop-i .moved) (omega (arith, b .room, c .pre .room)) more (at-end _ i-is (c .loop-i .inv .2)) in
     let still : s .ceiling ≤ length (set (s .list .now) (b .count) (c .loop-i .moved)) = omega (arith, s .room, length-set (s .list .now) (b .count) (c .loop-i .moved)) in
-    let counted : b .count + 1 ≤ s .ceiling = omega (arith, same, c .pre .room) in
-    (
+    let counted : b .count + 1 ≤ s .ceiling = omega (arith, same, c .pre .room) in (
       counted,
       (
         still,
@@ -90,10 +88,10 @@ ghost-self-2 c =
           s .limited,
           (
             ap sound full ∙ sound-from _ (rising b (c .args .e) (c .args .k) (c .pre .fits) (c .pre .new)) (all-proper b (c .args .e) (c .args .k) (c .pre .fits) (c .pre .new) (c .pre .proper)),
-            tt
-          )
-        )
-      )
+            tt,
+          ),
+        ),
+      ),
     )
 
 pub returns : need.returns

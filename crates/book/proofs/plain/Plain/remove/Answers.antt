@@ -54,16 +54,15 @@ ghost-self-in-loop-i c =
     let s = c .loop-i .self in
     let kept = c .loop-i .inv in
     let next = down b s (c .args .k) (c .loop-i .i) (c .loop-i .moved) (c .loop-i .moved) (c .pre) (c .loop-i-test .taken) (c .loop-i .kept .i) (kept .2) in
-    let still : s .ceiling ≤ length (set (s .list .now) (c .loop-i .i - 1) (c .loop-i .moved)) = omega (arith, s .room, length-set (s .list .now) (c .loop-i .i - 1) (c .loop-i .moved)) in
-    (
+    let still : s .ceiling ≤ length (set (s .list .now) (c .loop-i .i - 1) (c .loop-i .moved)) = omega (arith, s .room, length-set (s .list .now) (c .loop-i .i - 1) (c .loop-i .moved)) in (
       s .counted,
       (
         still,
         (
           s .limited,
-          (ap (λ m. sound (take m (set (s .list .now) (c .loop-i .i - 1) (c .loop-i .moved)))) (kept .0) ∙ ap sound (next .front) ∙ sound-gap b (omega (arith, c .pre)) (c .loop-i .i - 1), tt)
-        )
-      )
+          (ap (λ m. sound (take m (set (s .list .now) (c .loop-i .i - 1) (c .loop-i .moved)))) (kept .0) ∙ ap sound (next .front) ∙ sound-gap b (omega (arith, c .pre)) (c .loop-i .i - 1), tt),
+        ),
+      ),
     )
 
 pub loop-i-again : need.loop-i-again

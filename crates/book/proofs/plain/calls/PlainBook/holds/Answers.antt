@@ -1,5 +1,4 @@
-use mathlib.Core.Path.{_≡_, refl, sym, subst, _∙_}
-use mathlib.Core.Bool.{true}
+use mathlib.Core.Path.{refl}
 use mathlib.Core.List.{List}
 use Prim.Native.Nat.{ℕ}
 use Rattle.std.specs.declared.result.Result.{Result}
@@ -11,11 +10,11 @@ use Rattle.std.proofs.shelf.Ways.{decides-at}
 use Rattle.rights.specs.declared.entries.Entry.{Entry}
 use Rattle.rights.specs.Lists.{In}
 use Rattle.book.specs.Places.{Finding}
-use Rattle.book.proofs.Members.{in-getD}
+use Rattle.book.proofs.Members.{stands-in}
 use Rattle.book.proofs.plain.calls.PlainBook.holds.Needs as need
 
 found : (e : Entry) (es : List Entry) (r : Result ℕ ℕ) → Finding e es r → Decides (isOk r) (In e es)
-found e es (Ok k) h = ((λ _. subst (λ x. In x es) (h .1) (in-getD es k e (h .0))), (λ _. refl))
+found e es (Ok k) h = ((λ _. stands-in e es k (h .0) (h .1)), (λ _. refl))
 found e es (Err k) h = ((λ no-test. absurd (false≢true no-test)), (λ i. absurd (h .0 i)))
 
 pub returns : need.returns

@@ -1,26 +1,24 @@
-use mathlib.Core.Path.{_≡_, refl, sym, subst, ap, _∙_}
+use mathlib.Core.Path.{refl, sym, _∙_}
 use mathlib.Core.Logic.{inl, inr}
 use lib.ListN.{length}
 use native.Mathlib.Omega.{arith}
 use Rattle.std.proofs.shelf.Lists.{length-take-le}
 use Rattle.std.proofs.shelf.Tests.{false≢true}
 use Rattle.rights.specs.Checks.{First}
-use Rattle.rights.specs.Lists.{In}
 use Rattle.book.specs.Standing.{standing}
 use Rattle.book.proofs.Finds.{parts-with}
-use Rattle.book.proofs.Members.{in-getD}
+use Rattle.book.proofs.Members.{stands-in}
 use Rattle.book.proofs.plain.calls.PlainBook.put.Needs as need
 
 pub returns-then-not-proper : need.returns-then-not-proper
 unfolding First
-returns-then-not-proper c = record { refuses = inl ((λ h. false≢true (c .if-not-proper .ensures tt .1 h)), refl); after = refl; ceiling = refl }
+returns-then-not-proper c = record { refuses = inl ((λ h. false≢true (c .if-not-proper .ensures tt .1 h)), refl); after = refl; ceiling = refl; rest = refl }
 
 pub returns-in-rest : need.returns-in-rest
 unfolding First
 returns-in-rest c =
     let h = c .in-rest .ensures tt in
-    let stands = subst (λ x. In x (standing (c .args .self .now))) (h .1) (in-getD (standing (c .args .self .now)) _ (c .args .e) (h .0)) in
-    record { refuses = inr ((λ bad. bad (c .if-not-proper .ensures tt .0 refl)), inl (stands, refl)); after = refl; ceiling = refl }
+    record { refuses = inr ((λ bad. bad (c .if-not-proper .ensures tt .0 refl)), inl (stands-in (c .args .e) _ _ (h .0) (h .1), refl)); after = refl; ceiling = refl; rest = refl }
 
 pub returns-then-self : need.returns-then-self
 unfolding First
@@ -32,6 +30,7 @@ returns-then-self c =
       refuses = inr ((λ bad. bad (c .if-not-proper .ensures tt .0 refl)), inr (h .0, inl (n ∙ c .if-self .taken, refl)));
       after = refl;
       ceiling = refl;
+      rest = refl;
     }
 
 pub returns : need.returns
@@ -44,6 +43,7 @@ returns c =
       refuses = inr ((λ bad. bad (c .if-not-proper .ensures tt .0 refl)), inr (h .0, inr ((λ full. c .if-self .left (sym n ∙ full)), refl)));
       after = c .insert .ensures .entries ∙ sym (parts-with (c .args .e) (standing b) _ (h .1) (h .0));
       ceiling = c .insert .ensures .ceiling;
+      rest = c .insert .ensures .rest;
     }
 
 pub insert-requires : need.insert-requires
