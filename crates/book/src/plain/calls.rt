@@ -14,7 +14,7 @@ ghost use lib.ListN.{length};
 ghost use Rattle.std.specs.Results.{isOk};
 ghost use Rattle.std.specs.shelf.Lists.{inserted, removed};
 ghost use Rattle.rights.specs.Checks.{First, fault-of};
-ghost use Rattle.rights.specs.Entries.{Proper};
+ghost use Rattle.rights.specs.Entries.{Before, Proper};
 ghost use Rattle.rights.specs.Lists.{In};
 ghost use Rattle.book.specs.Effects.{with-entry, without-entry, put-checks, take-checks, Ceiling};
 ghost use Rattle.book.specs.Places.{Parts, Finding};
@@ -46,7 +46,7 @@ impl Plain<'_> {
 
     // Puts e at place k, and moves every entry from there on up one place.
     fn insert(&mut self, k: usize, e: Entry)
-        requires fits { ⌜ Parts e (standing (now self)) k ⌝ }
+        requires fits { ⌜ Parts (λ f. Before f e) (standing (now self)) k ⌝ }
         requires new { ⌜ (In e (standing (now self)) → ⊥) ⌝ }
         requires proper { ⌜ Proper e ⌝ }
         requires room { ⌜ now self .count < now self .ceiling ⌝ }

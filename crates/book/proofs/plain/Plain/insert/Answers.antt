@@ -7,7 +7,7 @@ use Rattle.std.specs.shelf.Lists.{All, inserted}
 use Rattle.std.proofs.shelf.Edits.{length-inserted}
 use Rattle.std.proofs.shelf.Lists.{length-set, length-take-le}
 use Rattle.rights.specs.declared.entries.Entry.{Entry}
-use Rattle.rights.specs.Entries.{Proper, RisingEntries, sound}
+use Rattle.rights.specs.Entries.{Before, Proper, RisingEntries, sound}
 use Rattle.rights.specs.Lists.{In}
 use Rattle.book.specs.declared.plain.Plain.{Plain}
 use Rattle.book.specs.Places.{Parts}
@@ -18,7 +18,7 @@ use Rattle.book.proofs.Gaps.{Gap, gap-inserted, step-up, gap-filled, gap-past}
 use Rattle.book.proofs.plain.Plain.insert.Needs as need
 
 -- the list that the book will hold
-module _ (b : Plain) (e : Entry) (k : ℕ) (fits : Parts e (standing b) k) (new : In e (standing b) → ⊥) where
+module _ (b : Plain) (e : Entry) (k : ℕ) (fits : Parts (λ f. Before f e) (standing b) k) (new : In e (standing b) → ⊥) where
   long : length (inserted (standing b) k e) ≡ b .count + 1
   long =
       let h = length-take-le (b .count) (b .list .now) (omega (arith, b .counted, b .room)) in
