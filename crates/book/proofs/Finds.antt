@@ -12,7 +12,7 @@ use Rattle.std.proofs.shelf.Lists.{getD-default, getD-read}
 use Rattle.std.proofs.shelf.Tests.{cases-order}
 use Rattle.rights.specs.declared.entries.Entry.{Entry}
 use Rattle.rights.specs.Entries.{Before, Proper, RisingEntries, before, same-entry, sound}
-use Rattle.rights.specs.Lists.{In}
+use Rattle.rights.specs.Lists.{In, Rising}
 use Rattle.rights.proofs.Order.{decides-before, decides-same, before-irreflexive, before-transitive, before-total, sound-from}
 use Rattle.book.specs.Effects.{with-entry, without-entry}
 use Rattle.book.specs.Places.{Parts, Falling}
@@ -30,11 +30,16 @@ sound-removed es i up all = sound-from (removed es i) (rising-removed es i up) (
 
 -- ---- places
 
-pub rising-getD : (es : List Entry) (i j : ℕ) (d : Entry) → RisingEntries es → i < j → j < length es → Before (getD es i d) (getD es j d)
-rising-getD [] i j d up lt h = absurd (omega arith)
-rising-getD (e ∷ es) i zero d up lt h = absurd (omega arith)
-rising-getD (e ∷ es) zero (suc j) d up lt h = all-getD (Before e) es j d (omega arith) (up .0)
-rising-getD (e ∷ es) (suc i) (suc j) d up lt h = rising-getD es i j d (up .1) (omega arith) (omega arith)
+module _ {X : Type 0} (R : X → X → Type 0) where
+  pub rising-getD : (xs : List X) (i j : ℕ) (d : X) → Rising R xs → i < j → j < length xs → R (getD xs i d) (getD xs j d)
+  rising-getD [] i j d up lt h = absurd (omega arith)
+  rising-getD (x ∷ xs) i zero d up lt h = absurd (omega arith)
+  rising-getD (x ∷ xs) zero (suc j) d up lt h = all-getD (R x) xs j d (omega arith) (up .0)
+  rising-getD (x ∷ xs) (suc i) (suc j) d up lt h = rising-getD xs i j d (up .1) (omega arith) (omega arith)
+
+  -- what lies below y in a rising list has all that stands before it below y too
+  pub rising-falls : ((x y z : X) → R x y → R y z → R x z) → (y : X) (xs : List X) → Rising R xs → Falling (λ x. R x y) xs
+  rising-falls chain y xs up i j d less in′ h = chain _ _ _ (rising-getD xs i j d up less in′) h
 
 tail-parts : {X : Type 0} {Low : X → Type 0} {x : X} {xs : List X} {k : ℕ} → Parts Low (x ∷ xs) (suc k) → Parts Low xs k
 tail-parts {X} {Low} {x} {xs} {k} p = record {
@@ -86,10 +91,6 @@ stands-without e (f ∷ fs) (suc k) up h at =
         go : (b : Bool) → same-entry x y ≡ b → same-entry x y ≡ false
         go true test = absurd (other (decides-same x y .0 test))
         go false test = test
-
--- what lies below e in a rising list has all that stands before it below e too
-pub rising-falls : (e : Entry) (es : List Entry) → RisingEntries es → Falling (λ f. Before f e) es
-rising-falls e es up i j d less in′ h = before-transitive _ _ _ (rising-getD es i j d up less in′) h
 
 module _ (e : Entry) (es : List Entry) (m : ℕ) (d : Entry) (in′ : m < length es) where
   -- what does not come before e, nor e before it, is e

@@ -8,11 +8,10 @@ use lib.Dec.{eqb}
 use lib.ListN.{length, getD}
 use Rattle.std.proofs.shelf.Tests.{and-parts, eqb-true}
 use Rattle.rights.specs.declared.vocabulary.Right.{Right}
-use Rattle.rights.specs.Bits.{bit}
-use Rattle.rights.proofs.Bits.{rows}
+use Rattle.rights.specs.Bits.{bit, rows}
 
 -- the rights of the list have the numbers from i on
-abbrev numbered : ℕ → List Right → Bool
+abbrev pub numbered : ℕ → List Right → Bool
 numbered i [] = true
 numbered i (r ∷ rs) = eqb (bit r) i && numbered (suc i) rs
 

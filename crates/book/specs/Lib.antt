@@ -1,3 +1,4 @@
+pub mod Cells
 pub mod Effects
 pub mod Places
 pub mod Standing

@@ -1,10 +1,13 @@
 // What a book is, and the books.
+mod keyed;
 mod making;
+mod maps;
 mod meaning;
 mod order;
 mod places;
 mod plain;
 
+pub use keyed::Cell;
 pub use making::check;
 pub use meaning::Book;
 pub use plain::Plain;

@@ -16,7 +16,7 @@ use Rattle.rights.specs.Bits.{bit}
 use Rattle.rights.specs.Entries.{Then, Before, Proper, RisingEntries, then-test, before, same-entry, proper, sound}
 use Rattle.rights.proofs.Bits.{bit-injective}
 
-decides-then : (a b : ℕ) {R : Type 0} (r : Bool) → Decides r R → Decides (then-test a b r) (Then a b R)
+pub decides-then : (a b : ℕ) {R : Type 0} (r : Bool) → Decides r R → Decides (then-test a b r) (Then a b R)
 decides-then a b r h = decides-or _ _ (decides-ltb a b) (decides-and _ _ (decides-eqb a b) h)
 
 pub decides-before : (e f : Entry) → Decides (before e f) (Before e f)
@@ -35,17 +35,17 @@ decides-same e f =
     (decides-and _ _ (decides-eqb _ _) (decides-and _ _ (decides-eqb _ _) (decides-and _ _ (decides-eqb _ _) (decides-eqb _ _))))
 
 -- an order with a rest: irreflexive, transitive and total where the rest is
-then-irreflexive : (a : ℕ) {R : Type 0} → (R → ⊥) → Then a a R → ⊥
+pub then-irreflexive : (a : ℕ) {R : Type 0} → (R → ⊥) → Then a a R → ⊥
 then-irreflexive a no-rest (inl h) = omega arith
 then-irreflexive a no-rest (inr h) = no-rest (h .1)
 
-then-transitive : (a b c : ℕ) {R S Q : Type 0} → (R → S → Q) → Then a b R → Then b c S → Then a c Q
+pub then-transitive : (a b c : ℕ) {R S Q : Type 0} → (R → S → Q) → Then a b R → Then b c S → Then a c Q
 then-transitive a b c more (inl h) (inl k) = inl (omega arith)
 then-transitive a b c more (inl h) (inr k) = inl (omega (arith, k .0))
 then-transitive a b c more (inr h) (inl k) = inl (omega (arith, h .0))
 then-transitive a b c more (inr h) (inr k) = inr (h .0 ∙ k .0, more (h .1) (k .1))
 
-then-total : (a b : ℕ) {E R S : Type 0} → (E ⊎ (R ⊎ S)) → ((a ≡ b) × E) ⊎ (Then a b R ⊎ Then b a S)
+pub then-total : (a b : ℕ) {E R S : Type 0} → (E ⊎ (R ⊎ S)) → ((a ≡ b) × E) ⊎ (Then a b R ⊎ Then b a S)
 then-total a b rest =
     ⊎-elim
     (λ same. ⊎-elim (λ e. inl (same, e)) (⊎-elim (λ r. inr (inl (inr (same, r)))) (λ s. inr (inr (inr (sym same, s))))) rest)

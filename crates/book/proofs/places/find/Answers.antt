@@ -1,6 +1,8 @@
 use mathlib.Core.Path.{refl}
 use native.Mathlib.Omega.{arith}
 use Rattle.std.proofs.shelf.Tests.{false≢true}
+use Rattle.rights.specs.Entries.{Before}
+use Rattle.rights.proofs.Order.{before-transitive}
 use Rattle.book.proofs.Finds.{parts-stands, parts-equal, not-equal, rising-falls}
 use Rattle.book.proofs.places.find.Needs as need
 use Rattle.book.proofs.places.find.Needs.{else-k-list·by·then-k-list·else-not-precedes, else-k-list·by·else-k-list}
@@ -22,4 +24,4 @@ returns-else-k-list c = (
 )
 
 pub place-k-requires : need.place-k-requires
-place-k-requires c κs = rising-falls (c .args .e) (c .args .list .now) (c .pre)
+place-k-requires c κs = rising-falls Before before-transitive (c .args .e) (c .args .list .now) (c .pre)
