@@ -1,8 +1,9 @@
+pub mod Counts
 pub mod Finds
 pub mod Gaps
 pub mod Heaps
 pub mod Makes
-pub mod Unpacked
 pub mod Members
 pub mod Table
 pub mod Tests
+pub mod Unpacked

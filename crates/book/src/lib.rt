@@ -4,6 +4,7 @@ mod making;
 mod maps;
 mod meaning;
 mod order;
+mod packed;
 mod places;
 mod plain;
 

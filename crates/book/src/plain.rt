@@ -12,6 +12,7 @@ mod calls;
 pub use calls::PlainBook;
 
 // The first `count` records of the list stand; there is room for the ceiling.
+#[derive(Drop)]
 pub struct Plain<'a> {
     list: &'a mut [Entry],
     count: usize,
