@@ -12,7 +12,7 @@ use Rattle.std.proofs.shelf.Lists.{append-nil, take-all, take-take, drop-all, d
 use Rattle.std.proofs.shelf.Elements.{all-append, all-take, all-drop}
 
 module _ {X : Type 0} where
-  take-set-below : (n : ℕ) (xs : List X) (i : ℕ) (x : X) → i < n → take n (set xs i x) ≡ set (take n xs) i x
+  pub take-set-below : (n : ℕ) (xs : List X) (i : ℕ) (x : X) → i < n → take n (set xs i x) ≡ set (take n xs) i x
   take-set-below zero xs i x h = absurd (omega arith)
   take-set-below (suc n) [] i x h = refl
   take-set-below (suc n) (y ∷ ys) zero x h = refl

@@ -42,4 +42,58 @@ impl Cells<'_> {
             self.used = k + 1;
         }
     }
+
+    // Puts another cell in place i.
+    pub fn write(&mut self, i: usize, cell: Cell)
+        requires place { ⌜ i < now self .used ⌝ }
+        requires orderly { ⌜ Orderly (set (cells (now self)) i cell) (now self .ceiling) ⌝ }
+        ensures entries { λ _. ⌜ packed (now (self .exit)) ≡ held (set (cells (now (self .entry))) i cell) ⌝ }
+        ensures ceiling { λ _. ⌜ now (self .exit) .ceiling ≡ now (self .entry) .ceiling ⌝ }
+        ensures rest { λ _. ⌜ SameCells (now (self .entry)) (now (self .exit)) ⌝ }
+    {
+        let n = self.used;
+        self.cut(i);
+        self.list[i] = cell;
+        self.resume(n);
+    }
+
+    // Puts a cell at place i, and moves every cell from there on up one place.
+    pub fn insert(&mut self, i: usize, cell: Cell)
+        requires place { ⌜ i ≤ now self .used ⌝ }
+        requires room { ⌜ now self .used < length (now (now self .list)) ⌝ }
+        requires orderly { ⌜ Orderly (inserted (cells (now self)) i cell) (now self .ceiling) ⌝ }
+        ensures entries { λ _. ⌜ packed (now (self .exit)) ≡ held (inserted (cells (now (self .entry))) i cell) ⌝ }
+        ensures ceiling { λ _. ⌜ now (self .exit) .ceiling ≡ now (self .entry) .ceiling ⌝ }
+        ensures rest { λ _. ⌜ SameCells (now (self .entry)) (now (self .exit)) ⌝ }
+    {
+        let n = self.used;
+        self.cut(i);
+        let mut moved = cell;
+        for j in i..n {
+            let next = self.list[j];
+            self.list[j] = moved;
+            moved = next;
+        }
+        self.list[n] = moved;
+        self.resume(n + 1);
+    }
+
+    // Takes out the cell at place i, and moves every cell past it down one place.
+    pub fn remove(&mut self, i: usize)
+        requires place { ⌜ i < now self .used ⌝ }
+        requires orderly { ⌜ Orderly (removed (cells (now self)) i) (now self .ceiling) ⌝ }
+        ensures entries { λ _. ⌜ packed (now (self .exit)) ≡ held (removed (cells (now (self .entry))) i) ⌝ }
+        ensures ceiling { λ _. ⌜ now (self .exit) .ceiling ≡ now (self .entry) .ceiling ⌝ }
+        ensures rest { λ _. ⌜ SameCells (now (self .entry)) (now (self .exit)) ⌝ }
+    {
+        let last = self.used - 1;
+        self.cut(i);
+        let mut moved = self.list[last];
+        for j in (i..last).rev() {
+            let next = self.list[j];
+            self.list[j] = moved;
+            moved = next;
+        }
+        self.resume(last);
+    }
 }
