@@ -172,7 +172,7 @@ kept-cut b i d less =
     let long = length-take-le (b .used) (b .list .now) (b .inside) in
     let sums = subst (λ l. numbered 0 l ≡ true) front (numbered-take 0 (cells b) i (b .sums)) in
     let count : getD (b .list .now) i d .earlier ≡ length (held (take i (b .list .now))) =
-      ap (λ c. c .earlier) (sym (getD-take (b .used) (b .list .now) i d less)) ∙ numbered-at 0 (cells b) i d (b .sums) (omega arith) ∙ zero-add _ ∙ ap (λ l. length (held l)) front in
+    ap (λ c. c .earlier) (sym (getD-take (b .used) (b .list .now) i d less)) ∙ numbered-at 0 (cells b) i d (b .sums) (omega arith) ∙ zero-add _ ∙ ap (λ l. length (held l)) front in
     kept-from (b .list .now) i _ (b .ceiling) (subst (λ l. Orderly l (b .ceiling)) front (orderly-take i (cells b) (b .ceiling) (orderly-book b))) sums count (b .room) (b .limited) (omega (arith, b .inside))
 
 -- a write past the cells used changes nothing of this

@@ -4,6 +4,9 @@ pub mod Gaps
 pub mod Heaps
 pub mod Makes
 pub mod Members
+pub mod Packs
+pub mod Reading
 pub mod Table
 pub mod Tests
+pub mod Turns
 pub mod Unpacked

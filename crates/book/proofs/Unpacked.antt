@@ -99,7 +99,7 @@ module _ (entry : Right → Entry) (m : ℕ) where
   unfolding picked has ones
   length-picked [] i n test end small = let e : i ≡ n = omega arith in sym (ap ones (ap (λ j. m / 2 ^ j) e ∙ div-eq-of-lt small))
   length-picked (r ∷ rs) i n test end small =
-      let b = eqb-true _ _ (and-parts (eqb (bit r) i) _ test .0) in
+      let b : bit r ≡ i = eqb-true _ _ (and-parts (eqb (bit r) i) _ test .0) in
       let rest = length-picked rs (suc i) n (and-parts (eqb (bit r) i) _ test .1) (omega arith) small in
       let half : m / 2 ^ i / 2 ≡ m / 2 ^ suc i = shr-shr m i 1 ∙ ap (λ j. m / 2 ^ j) (add-one i) in
       let step = ones-step (m / 2 ^ i) ∙ ap (λ j. m / 2 ^ i % 2 + ones j) half in

@@ -11,5 +11,7 @@ mod plain;
 pub use keyed::Cell;
 pub use making::check;
 pub use meaning::Book;
+pub use packed::Cells;
+pub use packed::CellsBook;
 pub use plain::Plain;
 pub use plain::PlainBook;

@@ -1,11 +1,14 @@
 // What a cell holds, and the cell that has the key of an entry.
 use crate::keyed::Cell;
+use crate::order::row;
 use crate::places::Sought;
 use crate::places::place;
 use rights::Entry;
 ghost use mathlib.Core.Path.{_≡_};
 ghost use Prim.Native.Nat.{_≤_, _<_};
 ghost use lib.ListN.{length};
+ghost use Rattle.std.specs.declared.option.Option.the-variants.{Some};
+ghost use Rattle.std.specs.Finite.{nth};
 ghost use Rattle.std.specs.Orderings.{Decides};
 ghost use Rattle.rights.specs.Lists.{Rising};
 ghost use Rattle.book.specs.Cells.{has as set-in, unpacked, entry-of, KeyBefore, key-cell, CellFinding};
@@ -24,6 +27,28 @@ impl Cell {
         ensures { λ r. ⌜ r ≡ set-in (now (self .entry) .rights) k ⌝ }
     {
         (self.rights >> k) % 2 == 1
+    }
+
+    // The entry at place n of those that the cell holds.
+    pub fn entry_at(&self, n: usize) -> Entry
+        requires { ⌜ n < length (unpacked (now self)) ⌝ }
+        ensures { λ r. ⌜ nth (unpacked (now (self .entry))) n ≡ Some r ⌝ }
+    {
+        let mut left = n;
+        for k in 0..32u8 {
+            if self.is_set(k) {
+                if left == 0 {
+                    return Entry {
+                        subject: self.subject,
+                        table: self.table,
+                        grantor: self.grantor,
+                        right: row(k),
+                    };
+                }
+                left -= 1;
+            }
+        }
+        unreachable()
     }
 
     // The cell has the subject, the table and the grantor of e.

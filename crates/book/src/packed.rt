@@ -8,7 +8,10 @@ ghost use lib.ListN.{length, take};
 ghost use Rattle.rights.specs.Entries.{sound};
 ghost use Rattle.book.specs.Cells.{held, climbs, numbered};
 
+mod calls;
 mod shifts;
+
+pub use calls::CellsBook;
 
 // The first `used` cells of the list stand, and hold `count` entries.
 #[derive(Drop)]

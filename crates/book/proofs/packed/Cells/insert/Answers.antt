@@ -77,5 +77,5 @@ returns c =
       entries = c .resume .ensures .entries ∙ ap held (filled ∙ same);
       ceiling = c .resume .ensures .ceiling ∙ kept .1 ∙ c .cut .ensures .ceiling;
       rest = ap (λ m. drop m (after .list .now)) used ∙ c .resume .ensures .rest ∙ gap-past old (b .used) (s .list .now) _ _ (c .loop-j .moved) (c .loop-j .moved) there ∙ ap (drop (b .used + 1)) (c .cut .ensures .list)
-        ∙ ap (λ m. drop m (b .list .now)) (sym used);
+          ∙ ap (λ m. drop m (b .list .now)) (sym used);
     }

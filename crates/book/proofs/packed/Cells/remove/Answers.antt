@@ -35,12 +35,11 @@ pub loop-j-again : need.loop-j-again
 loop-j-again c =
     let b = c .args .self .now in
     let kept = c .loop-j .inv in
-    let long = ap length (c .cut .ensures .list) in
-    (
+    let long = ap length (c .cut .ensures .list) in (
       kept .0,
       kept .1,
       down (c .loop-j .self .list .now) (c .cut .last .self .list .now) (b .used - 1) (c .args .i) (c .loop-j .j) (c .loop-j .moved) _ (omega (arith, b .inside, c .pre .place)) (c .loop-j-test .taken) (c .loop-j .kept .j) (kept .2),
-      omega (arith, c .loop-j-test .taken)
+      omega (arith, c .loop-j-test .taken),
     )
 
 pub resume-requires : need.resume-requires

@@ -45,12 +45,11 @@ pub loop-self-again : need.loop-self-again
 loop-self-again c =
     let s = c .loop-self .self in
     let kept = c .loop-self .inv in
-    let long = alike-length _ _ (kept .2) in
-    (
+    let long = alike-length _ _ (kept .2) in (
       omega (arith, c .loop-self-test .taken),
       kept .1,
       alike-set (s .list .now) (s .used) _ _ (omega (arith, c .pre .room, c .loop-self-test .taken)) refl ∙ kept .2,
-      drop-set-lt (c .args .n) (s .list .now) (s .used) _ (c .loop-self-test .taken) ∙ kept .3
+      drop-set-lt (c .args .n) (s .list .now) (s .used) _ (c .loop-self-test .taken) ∙ kept .3,
     )
 
 pub returns : need.returns

@@ -26,7 +26,7 @@ resume-requires c κs =
       from = omega (arith, c .cut .ensures .used, c .pre .place);
       room = omega (arith, b .inside);
       orderly = subst (λ l. Orderly l (s .ceiling)) (sym (written (b .list .now) (s .list .now) (b .used) (c .args .i) (c .args .cell) (c .cut .ensures .list) (c .pre .place)))
-        (subst (Orderly (set (take (b .used) (b .list .now)) (c .args .i) (c .args .cell))) (sym (c .cut .ensures .ceiling)) (c .pre .orderly));
+          (subst (Orderly (set (take (b .used) (b .list .now)) (c .args .i) (c .args .cell))) (sym (c .cut .ensures .ceiling)) (c .pre .orderly));
     }
 
 pub returns : need.returns
@@ -39,5 +39,5 @@ returns c =
       entries = c .resume .ensures .entries ∙ ap held (written (b .list .now) (s .list .now) (b .used) (c .args .i) (c .args .cell) (c .cut .ensures .list) (c .pre .place));
       ceiling = c .resume .ensures .ceiling ∙ c .cut .ensures .ceiling;
       rest = ap (λ m. drop m (after .list .now)) used ∙ c .resume .ensures .rest ∙ drop-set-lt (b .used) (s .list .now) (c .args .i) (c .args .cell) (c .pre .place) ∙ ap (drop (b .used)) (c .cut .ensures .list)
-        ∙ ap (λ m. drop m (b .list .now)) (sym used);
+          ∙ ap (λ m. drop m (b .list .now)) (sym used);
     }
