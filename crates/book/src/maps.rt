@@ -15,14 +15,14 @@ ghost use Rattle.book.specs.Cells.{has as set-in, unpacked, entry-of, KeyBefor
 
 impl Cell {
     // How many entries the cell holds.
-    pub fn size(&self) -> usize
+    pub(crate) fn size(&self) -> usize
         ensures { λ r. ⌜ r ≡ length (unpacked (now (self .entry))) ⌝ }
     {
         self.rights.count_ones() as usize
     }
 
     // Whether bit k of the map is set.
-    pub fn is_set(&self, k: u8) -> bool
+    pub(crate) fn is_set(&self, k: u8) -> bool
         requires { ⌜ k < 32 ⌝ }
         ensures { λ r. ⌜ r ≡ set-in (now (self .entry) .rights) k ⌝ }
     {
@@ -30,7 +30,7 @@ impl Cell {
     }
 
     // The entry at place n of those that the cell holds.
-    pub fn entry_at(&self, n: usize) -> Entry
+    pub(crate) fn entry_at(&self, n: usize) -> Entry
         requires { ⌜ n < length (unpacked (now self)) ⌝ }
         ensures { λ r. ⌜ nth (unpacked (now (self .entry))) n ≡ Some r ⌝ }
     {

@@ -44,7 +44,7 @@ impl Cells<'_> {
     }
 
     // Puts another cell in place i.
-    pub fn write(&mut self, i: usize, cell: Cell)
+    pub(crate) fn write(&mut self, i: usize, cell: Cell)
         requires place { ⌜ i < now self .used ⌝ }
         requires orderly { ⌜ Orderly (set (cells (now self)) i cell) (now self .ceiling) ⌝ }
         ensures entries { λ _. ⌜ packed (now (self .exit)) ≡ held (set (cells (now (self .entry))) i cell) ⌝ }
@@ -58,7 +58,7 @@ impl Cells<'_> {
     }
 
     // Puts a cell at place i, and moves every cell from there on up one place.
-    pub fn insert(&mut self, i: usize, cell: Cell)
+    pub(crate) fn insert(&mut self, i: usize, cell: Cell)
         requires place { ⌜ i ≤ now self .used ⌝ }
         requires room { ⌜ now self .used < length (now (now self .list)) ⌝ }
         requires orderly { ⌜ Orderly (inserted (cells (now self)) i cell) (now self .ceiling) ⌝ }
@@ -79,7 +79,7 @@ impl Cells<'_> {
     }
 
     // Takes out the cell at place i, and moves every cell past it down one place.
-    pub fn remove(&mut self, i: usize)
+    pub(crate) fn remove(&mut self, i: usize)
         requires place { ⌜ i < now self .used ⌝ }
         requires orderly { ⌜ Orderly (removed (cells (now self)) i) (now self .ceiling) ⌝ }
         ensures entries { λ _. ⌜ packed (now (self .exit)) ≡ held (removed (cells (now (self .entry))) i) ⌝ }
