@@ -9,4 +9,5 @@ pub mod Reading
 pub mod Table
 pub mod Tests
 pub mod Turns
+pub mod Undone
 pub mod Unpacked
