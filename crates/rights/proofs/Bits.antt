@@ -1,6 +1,5 @@
 -- Laws of bit numbers: each is below 32, and a right is found from its number and back.
 use mathlib.Core.Path.{_≡_, refl, sym, ap, _∙_}
-use mathlib.Core.List.{List, [], _∷_}
 use Prim.Native.Nat.{_<_}
 use lib.Dec.{lit<}
 use lib.ListN.{getD}
@@ -14,11 +13,7 @@ use Rattle.rights.specs.declared.vocabulary.Strength.{Strength}
 use Rattle.rights.specs.declared.vocabulary.Kind.{Kind}
 use Rattle.rights.specs.declared.vocabulary.Kind.the-variants.{AdmAccess, Administer}
 use Rattle.rights.specs.declared.vocabulary.Rank.{Rank}
-use Rattle.rights.specs.Bits.{bit}
-
--- the rights in the order of their numbers
-abbrev pub rows : List Right
-rows = Access Select Plus Strength.Weak ∷ Access Select Plus Strength.Strong ∷ Access Select Minus Strength.Weak ∷ Access Select Minus Strength.Strong ∷ Access Insert Plus Strength.Weak ∷ Access Insert Plus Strength.Strong ∷ Access Insert Minus Strength.Weak ∷ Access Insert Minus Strength.Strong ∷ Access Delete Plus Strength.Weak ∷ Access Delete Plus Strength.Strong ∷ Access Delete Minus Strength.Weak ∷ Access Delete Minus Strength.Strong ∷ Access Update Plus Strength.Weak ∷ Access Update Plus Strength.Strong ∷ Access Update Minus Strength.Weak ∷ Access Update Minus Strength.Strong ∷ Admin Select AdmAccess Rank.Weak ∷ Admin Select AdmAccess Rank.Strong ∷ Admin Select Administer Rank.Weak ∷ Admin Select Administer Rank.Strong ∷ Admin Insert AdmAccess Rank.Weak ∷ Admin Insert AdmAccess Rank.Strong ∷ Admin Insert Administer Rank.Weak ∷ Admin Insert Administer Rank.Strong ∷ Admin Delete AdmAccess Rank.Weak ∷ Admin Delete AdmAccess Rank.Strong ∷ Admin Delete Administer Rank.Weak ∷ Admin Delete Administer Rank.Strong ∷ Admin Update AdmAccess Rank.Weak ∷ Admin Update AdmAccess Rank.Strong ∷ Admin Update Administer Rank.Weak ∷ Admin Update Administer Rank.Strong ∷ []
+use Rattle.rights.specs.Bits.{bit, rows}
 
 -- each right stands in its row
 pub row-of : (r d : Right) → getD rows (bit r) d ≡ r

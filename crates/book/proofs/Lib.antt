@@ -1,0 +1,13 @@
+pub mod Counts
+pub mod Finds
+pub mod Gaps
+pub mod Heaps
+pub mod Makes
+pub mod Members
+pub mod Packs
+pub mod Reading
+pub mod Table
+pub mod Tests
+pub mod Turns
+pub mod Undone
+pub mod Unpacked

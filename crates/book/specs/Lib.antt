@@ -1,0 +1,5 @@
+pub mod Cells
+pub mod Effects
+pub mod Packing
+pub mod Places
+pub mod Standing

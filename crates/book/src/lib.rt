@@ -1,0 +1,17 @@
+// What a book is, and the books.
+mod keyed;
+mod making;
+mod maps;
+mod meaning;
+mod order;
+mod packed;
+mod places;
+mod plain;
+
+pub use keyed::Cell;
+pub use making::check;
+pub use meaning::Book;
+pub use packed::Cells;
+pub use packed::CellsBook;
+pub use plain::Plain;
+pub use plain::PlainBook;
