@@ -19,7 +19,7 @@ pub fn check(room: usize, wanted: usize) -> Result<(), BookFault>
 }
 
 // The ceiling of a book over a list of that room: the one wanted, or 0 where the check refuses.
-pub fn ceiling(room: usize, wanted: usize) -> usize
+pub(crate) fn ceiling(room: usize, wanted: usize) -> usize
     ensures { λ r. ⌜ Ceiling room wanted r ⌝ }
 {
     match check(room, wanted) {

@@ -60,7 +60,7 @@ impl Cell {
 }
 
 // A cell lies below an entry when its key comes first.
-pub impl Sought<Cell> for Entry as EntrySoughtCell {
+pub(crate) impl Sought<Cell> for Entry as EntrySoughtCell {
     ghost low = { λ e c. KeyBefore c (key-cell e) };
 
     fn above(&self, x: &Cell) -> bool {
@@ -75,7 +75,7 @@ pub impl Sought<Cell> for Entry as EntrySoughtCell {
 }
 
 // A cell lies below a place when its first entry stands there or before.
-pub impl Sought<Cell> for usize as PlaceSoughtCell {
+pub(crate) impl Sought<Cell> for usize as PlaceSoughtCell {
     ghost low = { λ k c. c .earlier ≤ k };
 
     fn above(&self, x: &Cell) -> bool {
@@ -84,7 +84,7 @@ pub impl Sought<Cell> for usize as PlaceSoughtCell {
 }
 
 // The place of the cell that has the key of e, or else the place where one would belong.
-pub fn find_cell(list: &[Cell], e: Entry) -> Result<usize, usize>
+pub(crate) fn find_cell(list: &[Cell], e: Entry) -> Result<usize, usize>
     requires { ⌜ Rising KeyBefore (now list) ⌝ }
     ensures { λ r. ⌜ CellFinding e (now (list .entry)) r ⌝ }
 {

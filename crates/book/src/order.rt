@@ -50,7 +50,7 @@ const ROWS: [Right; 32] = [
 ];
 
 // The right with a bit number.
-pub fn row(k: u8) -> Right
+pub(crate) fn row(k: u8) -> Right
     requires { ⌜ k < 32 ⌝ }
     ensures { λ r. ⌜ bit r ≡ k ⌝ }
 {
@@ -64,7 +64,7 @@ fn same_right(r: Right, q: Right) -> bool
 }
 
 // The number of the row that a right stands in.
-pub fn bit_number(right: Right) -> u8
+pub(crate) fn bit_number(right: Right) -> u8
     ensures { λ r. ⌜ r ≡ bit right ⌝ }
 {
     let mut k = 0;
@@ -75,14 +75,14 @@ pub fn bit_number(right: Right) -> u8
 }
 
 // Every number of the entry is in its range.
-pub fn proper(e: &Entry) -> bool
+pub(crate) fn proper(e: &Entry) -> bool
     ensures { λ r. ⌜ Decides r (Proper (now (e .entry))) ⌝ }
 {
     e.subject != 0 && e.table <= 127 && e.grantor != 0
 }
 
 // Entries are ordered by subject, table, grantor and bit number.
-pub fn precedes(e: &Entry, f: &Entry) -> bool
+pub(crate) fn precedes(e: &Entry, f: &Entry) -> bool
     ensures { λ r. ⌜ Decides r (Before (now (e .entry)) (now (f .entry))) ⌝ }
 {
     if e.subject != f.subject {

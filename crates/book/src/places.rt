@@ -6,14 +6,14 @@ ghost use Rattle.rights.specs.Entries.{Before, RisingEntries};
 ghost use Rattle.book.specs.Places.{Parts, Falling, Finding};
 
 // What is sought in a list of T: it tells of each element whether that lies below it.
-pub trait Sought<T> {
+pub(crate) trait Sought<T> {
     ghost low: { Self → T → Type 0 };
 
     fn above(&self, x: &T) -> bool
         ensures { λ r. ⌜ Decides r (low (now (self .entry)) (now (x .entry))) ⌝ };
 }
 
-pub impl Sought<Entry> for Entry as EntrySought {
+pub(crate) impl Sought<Entry> for Entry as EntrySought {
     ghost low = { λ e f. Before f e };
 
     fn above(&self, x: &Entry) -> bool {
@@ -22,7 +22,7 @@ pub impl Sought<Entry> for Entry as EntrySought {
 }
 
 // How many elements of the list lie below what is sought.
-pub fn place<T, S: Sought<T>>(list: &[T], sought: &S) -> usize
+pub(crate) fn place<T, S: Sought<T>>(list: &[T], sought: &S) -> usize
     requires { ⌜ Falling (S·Sought .low (now sought)) (now list) ⌝ }
     ensures { λ r. ⌜ Parts (S·Sought .low (now (sought .entry))) (now (list .entry)) r ⌝ }
 {
@@ -40,7 +40,7 @@ pub fn place<T, S: Sought<T>>(list: &[T], sought: &S) -> usize
 }
 
 // The place where e stands, or else the place where it belongs.
-pub fn find(list: &[Entry], e: Entry) -> Result<usize, usize>
+pub(crate) fn find(list: &[Entry], e: Entry) -> Result<usize, usize>
     requires { ⌜ RisingEntries (now list) ⌝ }
     ensures { λ r. ⌜ Finding e (now (list .entry)) r ⌝ }
 {
