@@ -32,8 +32,8 @@ pub(crate) fn join(table: &mut [[bool; 256]; 256], m: u8, g: u8)
 {
     let above = table[g as usize];
     for s in 0..256 {
-        let row = table[s];
-        if row[m as usize] {
+        if table[s][m as usize] {
+            let row = table[s];
             table[s] = merged(row, &above);
         }
     }
@@ -45,8 +45,7 @@ pub(crate) fn renew(table: &mut [[bool; 256]; 256], store: &Store<'_>, m: u8)
     ensures { λ _. ⌜ Renewed (stored (now (store .entry))) m (now (table .entry)) (now (table .exit)) ⌝ }
 {
     for s in 0..256 {
-        let row = table[s];
-        if row[m as usize] {
+        if table[s][m as usize] {
             table[s] = store.reached(s as u8);
         }
     }
