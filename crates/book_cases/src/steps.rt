@@ -107,11 +107,22 @@ fn counted(tally: Tally, answer: u8, agreed: bool) -> Tally {
     t
 }
 
-// One step on both books: two puts for each taking.
+// The entry at a place that was drawn, or else the one drawn.
+fn standing_or<A: Book>(a: &A, n: u32, e: Entry) -> Entry {
+    match a.at((n >> 18 & 31) as usize) {
+        Some(f) => f,
+        None => e,
+    }
+}
+
+// One step on both books: a put, a taking of what was drawn, or one of what stands.
 fn step<A: Book, B: Book>(a: &mut A, b: &mut B, n: u32, tally: Tally) -> Tally {
     let e = entry_of(n);
     let (x, y) = if n >> 6 & 3 == 0 {
         (number(a.take(e)), number(b.take(e)))
+    } else if n >> 6 & 3 == 1 {
+        let f = standing_or(a, n, e);
+        (number(a.take(f)), number(b.take(f)))
     } else {
         (number(a.put(e)), number(b.put(e)))
     };
