@@ -129,7 +129,7 @@ fn step<A: Book, B: Book>(a: &mut A, b: &mut B, n: u32, tally: Tally) -> Tally {
     counted(tally, x, x == y && alike(a, b))
 }
 
-pub fn run<A: Book, B: Book>(a: &mut A, b: &mut B, steps: usize) -> Tally {
+pub(crate) fn run<A: Book, B: Book>(a: &mut A, b: &mut B, steps: usize) -> Tally {
     let mut tally = Tally {
         agreed: 0,
         done: 0,

@@ -4,7 +4,7 @@ use rights::Entry;
 ghost use mathlib.Core.Path.{_≡_};
 
 // The entry that would stand first if e were put too; the book is left as it was.
-pub fn first_with<B: Book>(book: &mut B, e: Entry) -> Option<Entry>
+pub(crate) fn first_with<B: Book>(book: &mut B, e: Entry) -> Option<Entry>
     ensures same { λ _. ⌜ B·Book .entries (now (book .exit)) ≡ B·Book .entries (now (book .entry)) ⌝ }
     ensures ceiling { λ _. ⌜ B·Book .most (now (book .exit)) ≡ B·Book .most (now (book .entry)) ⌝ }
 {

@@ -24,7 +24,7 @@ pub struct Tally {
 }
 
 impl Tally {
-    pub fn none() -> Tally {
+    pub(crate) fn none() -> Tally {
         Tally {
             changes: 0,
             refusals: 0,
@@ -35,14 +35,14 @@ impl Tally {
 }
 
 // Whether one of the two is within the other.
-pub fn related<R: Roll>(roll: &R, s: u16, g: u16) -> bool
+pub(crate) fn related<R: Roll>(roll: &R, s: u16, g: u16) -> bool
     ensures { λ r. ⌜ Decides r (WithinRoll (R·Roll .pairs (now (roll .entry))) s g ⊎ WithinRoll (R·Roll .pairs (now (roll .entry))) g s) ⌝ }
 {
     roll.within(s, g) || roll.within(g, s)
 }
 
 // The refusal's number, or 0. A change that is refused changes nothing, and none changes the ceiling.
-pub fn apply<R: RollMut>(roll: &mut R, c: Change) -> u8
+pub(crate) fn apply<R: RollMut>(roll: &mut R, c: Change) -> u8
     ensures ceiling { λ _. ⌜ R·Roll .ceiling (now (roll .exit)) ≡ R·Roll .ceiling (now (roll .entry)) ⌝ }
 {
     let done = match c {
@@ -73,14 +73,19 @@ fn ask_row<A: Roll, B: Roll>(a: &A, b: &B, tally: &mut Tally, s: u16) {
 }
 
 // All questions, with numbers out of range.
-pub fn ask_all<A: Roll, B: Roll>(a: &A, b: &B, tally: &mut Tally) {
+pub(crate) fn ask_all<A: Roll, B: Roll>(a: &A, b: &B, tally: &mut Tally) {
     for s in 0..258 {
         ask_row(a, b, tally, s);
     }
 }
 
 // The same change on both, and what they then tell of its subjects.
-pub fn both<A: RollMut, B: RollMut>(a: &mut A, b: &mut B, tally: &mut Tally, c: Change) -> u8 {
+pub(crate) fn both<A: RollMut, B: RollMut>(
+    a: &mut A,
+    b: &mut B,
+    tally: &mut Tally,
+    c: Change,
+) -> u8 {
     let first = apply(a, c);
     let second = apply(b, c);
     tally.changes = tally.changes.wrapping_add(1);

@@ -6,7 +6,7 @@ use crate::rolls::both;
 use roll::RollMut;
 
 // Two ways to one group: one is taken away, then the other.
-pub fn diamond<A: RollMut, B: RollMut>(a: &mut A, b: &mut B, tally: &mut Tally) {
+pub(crate) fn diamond<A: RollMut, B: RollMut>(a: &mut A, b: &mut B, tally: &mut Tally) {
     let ways = [(1, 10), (1, 11), (10, 12), (11, 12)];
     for (m, g) in ways {
         both(a, b, tally, Change::Put(m, g));
@@ -22,7 +22,7 @@ pub fn diamond<A: RollMut, B: RollMut>(a: &mut A, b: &mut B, tally: &mut Tally) 
 }
 
 // Every subject within the next, and the loops that are refused then.
-pub fn chain<A: RollMut, B: RollMut>(a: &mut A, b: &mut B, tally: &mut Tally) {
+pub(crate) fn chain<A: RollMut, B: RollMut>(a: &mut A, b: &mut B, tally: &mut Tally) {
     for s in 1..255 {
         both(a, b, tally, Change::Put(s, s + 1));
     }
@@ -49,7 +49,7 @@ pub fn chain<A: RollMut, B: RollMut>(a: &mut A, b: &mut B, tally: &mut Tally) {
 }
 
 // Puts and takes of numbers that look random, with one out of range now and then.
-pub fn mixed<A: RollMut, B: RollMut>(a: &mut A, b: &mut B, tally: &mut Tally) {
+pub(crate) fn mixed<A: RollMut, B: RollMut>(a: &mut A, b: &mut B, tally: &mut Tally) {
     let mut seed: u32 = 1999;
     for k in 0..1200u32 {
         seed = seed.wrapping_mul(1664525).wrapping_add(1013904223);
@@ -67,7 +67,7 @@ pub fn mixed<A: RollMut, B: RollMut>(a: &mut A, b: &mut B, tally: &mut Tally) {
 }
 
 // The pair that reaches the ceiling passes, the next is refused until one is taken.
-pub fn ceiling<A: RollMut, B: RollMut>(a: &mut A, b: &mut B, tally: &mut Tally) {
+pub(crate) fn ceiling<A: RollMut, B: RollMut>(a: &mut A, b: &mut B, tally: &mut Tally) {
     for s in 1..7 {
         both(a, b, tally, Change::Put(s, s + 1));
     }
