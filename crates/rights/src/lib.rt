@@ -31,6 +31,7 @@ pub use faults::SheetFaultFromRegister;
 pub use records::Subject;
 pub use records::TableRecord;
 pub use theorems::access_laws;
+pub use theorems::basic_laws;
 pub use theorems::mandate_laws;
 pub use theorems::worked_sheet_stands;
 pub use vocabulary::Kind;

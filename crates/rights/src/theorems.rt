@@ -1,11 +1,29 @@
 // Theorems about the rules: what each function is for stands in its contract alone.
 ghost use mathlib.Core.Path.{_≡_};
 ghost use lib.ListN.{length};
+ghost use Rattle.rights.specs.Basics.{BasicLaws};
+ghost use Rattle.rights.specs.Bits.{rows};
 ghost use Rattle.rights.specs.Contrasts.{Shows, delegates, oneself, EachOther, Itself, every-named, one-entry};
 ghost use Rattle.rights.specs.Laws.{AccessLaws};
 ghost use Rattle.rights.specs.Mandates.{MandateLaws, RunLaws};
 ghost use Rattle.rights.specs.Scenes.{Examples-answered, examples};
 ghost use Rattle.rights.specs.Worked.{Worked, WorkedNumbers, worked-commands as commands};
+
+// The laws of within, of holding, of bit numbers and of the order of entries.
+fn basics()
+    ensures { λ _. ⌜ BasicLaws ⌝ }
+{}
+
+// The same; the result is how many rights there are.
+pub fn basic_laws() -> u8
+    ensures laws { λ _. ⌜ BasicLaws ⌝ }
+    ensures many { λ r. ⌜ r ≡ length rows ⌝ }
+{
+    basics();
+    let of_access: u8 = 16;
+    let of_administration: u8 = 16;
+    of_access + of_administration
+}
 
 // Every question has exactly one answer, which reads only the tables and entries at the table asked
 // about and beneath it; what stays as more is granted; clashes and levels. And in each small state
