@@ -1,32 +1,31 @@
 -- What a place in a rising list of entries tells: whether e stands there, and what with-entry and without-entry are.
 use mathlib.Core.Path.{_≡_, refl, sym, ap, subst, _∙_}
-use mathlib.Core.Bool.{Bool, true, false, cond}
-use mathlib.Core.Logic.{_⊎_, inl, inr, ⊎-elim}
+use mathlib.Core.Bool.{Bool, true, false}
+use mathlib.Core.Logic.{inl, inr, ⊎-elim}
 use mathlib.Core.List.{List, [], _∷_}
 use Prim.Native.Nat.{ℕ, zero, suc, _+_, _≤_, _<_}
 use native.Mathlib.Omega.{arith}
-use lib.ListN.{length, getD}
+use lib.ListN.{length, getD, take, drop}
 use Rattle.std.specs.shelf.Lists.{All, inserted, removed}
-use Rattle.std.proofs.shelf.Elements.{all-getD}
+use Rattle.std.proofs.shelf.Elements.{all-append, all-take, all-drop, all-getD}
 use Rattle.std.proofs.shelf.Lists.{getD-default, getD-read}
 use Rattle.std.proofs.shelf.Tests.{cases-order}
 use Rattle.rights.specs.declared.entries.Entry.{Entry}
-use Rattle.rights.specs.Entries.{Before, Proper, RisingEntries, before, same-entry, sound}
+use Rattle.rights.specs.Entries.{Before, Proper, RisingEntries, before, same-entry}
 use Rattle.rights.specs.Lists.{In, Rising}
-use Rattle.rights.proofs.Order.{decides-before, decides-same, before-irreflexive, before-transitive, before-total, sound-from}
+use Rattle.rights.proofs.Order.{decides-before, decides-same, before-irreflexive, before-transitive, before-total}
 use Rattle.book.specs.Effects.{with-entry, without-entry}
 use Rattle.book.specs.Places.{Parts, Falling}
-use Rattle.book.proofs.Gaps.{all-removed}
 use Rattle.book.proofs.Members.{all-in, in-getD, with-rises, all-with}
+
+pub all-removed : {X : Type 0} (P : X → Type 0) (ys : List X) (i : ℕ) → All P ys → All P (removed ys i)
+all-removed P ys i all = all-append P (take i ys) (drop (suc i) ys) (all-take P i ys all) (all-drop P (suc i) ys all)
 
 pub rising-removed : (es : List Entry) (i : ℕ) → RisingEntries es → RisingEntries (removed es i)
 rising-removed [] zero up = tt
 rising-removed [] (suc i) up = tt
 rising-removed (e ∷ es) zero up = up .1
 rising-removed (e ∷ es) (suc i) up = (all-removed (Before e) es i (up .0), rising-removed es i (up .1))
-
-pub sound-removed : (es : List Entry) (i : ℕ) → RisingEntries es → All Proper es → sound (removed es i) ≡ true
-sound-removed es i up all = sound-from (removed es i) (rising-removed es i up) (all-removed Proper es i all)
 
 -- ---- places
 

@@ -1,13 +1,10 @@
 -- Lists of cells that rise by key: what they hold, that it rises, and what one more cell, one less or another changes.
 use mathlib.Core.Path.{_≡_, refl, sym, ap, subst, _∙_}
-use mathlib.Core.Bool.{Bool, true, false}
 use mathlib.Core.Logic.{_⊎_, inl, inr, ⊎-elim}
 use mathlib.Core.List.{List, [], _∷_, _++_, append-assoc}
-use Prim.Native.Nat.{ℕ, zero, suc, _+_, _≤_, _<_}
+use Prim.Native.Nat.{ℕ, _+_, _≤_, _<_}
 use native.Mathlib.Omega.{arith}
-use lib.Dec.{ltb}
 use lib.ListN.{length, getD, take, drop}
-use Rattle.std.specs.Joined.{joined}
 use Rattle.std.specs.Orderings.{Decides}
 use Rattle.std.specs.shelf.Lawful.{all-pass}
 use Rattle.std.specs.shelf.Lists.{All}
@@ -15,13 +12,12 @@ use Rattle.std.specs.declared.result.Result.the-variants.{Err}
 use Rattle.std.proofs.shelf.Elements.{all-append, all-from-getD}
 use Rattle.std.proofs.shelf.Lists.{length-take-le, length-drop, getD-take, getD-drop}
 use Rattle.std.proofs.shelf.Tests.{cases-order}
-use Rattle.std.proofs.shelf.Ways.{decides-ltb, decides-and, decides-by-and, decides-like}
+use Rattle.std.proofs.shelf.Ways.{decides-ltb, decides-and, decides-by-and}
 use Rattle.rights.specs.declared.entries.Entry.{Entry}
 use Rattle.rights.specs.declared.vocabulary.Right.{Right}
-use Rattle.rights.specs.Bits.{bit}
 use Rattle.rights.specs.Entries.{Before, RisingEntries}
 use Rattle.rights.specs.Lists.{In, Rising}
-use Rattle.rights.proofs.Order.{decides-then, then-irreflexive, then-transitive, then-total}
+use Rattle.rights.proofs.Order.{decides-then, then-transitive, then-total}
 use Rattle.book.specs.declared.keyed.Cell.{Cell}
 use Rattle.book.specs.Cells.{entry-of, unpacked, held, KeyBefore, key-before, climbs, key-cell, CellFinding}
 use Rattle.book.specs.Effects.{with-entry, without-entry}

@@ -1,11 +1,12 @@
 pub mod Counts
 pub mod Finds
-pub mod Gaps
 pub mod Heaps
 pub mod Makes
 pub mod Members
 pub mod Packs
+pub mod Plains
 pub mod Reading
+pub mod Shifts
 pub mod Table
 pub mod Tests
 pub mod Turns

@@ -1,23 +1,20 @@
 -- Laws of rising lists of entries: what with-entry and without-entry hold, how long they are, that they rise,
 -- and that two rising lists with the same members are one.
-use mathlib.Core.Path.{_≡_, refl, sym, ap, subst, _∙_}
-use mathlib.Core.Bool.{Bool, true, false, cond, _&&_}
+use mathlib.Core.Path.{_≡_, refl, sym, subst, _∙_}
+use mathlib.Core.Bool.{Bool, true, false, cond}
 use mathlib.Core.Logic.{_⊎_, inl, inr, ⊎-elim}
 use mathlib.Core.List.{List, [], _∷_}
-use Prim.Native.Nat.{ℕ, zero, suc, _+_, _≤_, _<_}
+use Prim.Native.Nat.{ℕ, zero, suc, _+_, _<_}
 use native.Mathlib.Omega.{arith}
 use lib.ListN.{length, getD}
-use Rattle.std.specs.Orderings.{Decides}
-use Rattle.std.specs.shelf.Lawful.{all-pass}
-use Rattle.std.specs.shelf.Lists.{All, inserted, removed}
+use Rattle.std.specs.shelf.Lists.{All}
 use Rattle.std.proofs.shelf.Elements.{all-weaker}
-use Rattle.std.proofs.shelf.Ways.{decides-and, decides-by-and, decides-like, not-from-decides}
+use Rattle.std.proofs.shelf.Ways.{not-from-decides}
 use Rattle.rights.specs.declared.entries.Entry.{Entry}
-use Rattle.rights.specs.Entries.{Before, Proper, RisingEntries, before, same-entry}
+use Rattle.rights.specs.Entries.{Before, RisingEntries, before, same-entry}
 use Rattle.rights.specs.Lists.{In}
 use Rattle.rights.proofs.Order.{decides-before, decides-same, before-irreflexive, before-transitive, before-total}
 use Rattle.book.specs.Effects.{with-entry, without-entry}
-use Rattle.book.specs.Places.{Parts, Finding}
 
 pub all-in : {X : Type 0} (P : X → Type 0) (x : X) (xs : List X) → All P xs → In x xs → P x
 all-in P x [] h i = absurd i

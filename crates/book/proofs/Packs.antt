@@ -1,10 +1,10 @@
 -- What the code of a cell book reads and writes, told of its cells and entries.
-use mathlib.Core.Path.{_≡_, refl, sym, ap, subst, _∙_}
-use mathlib.Core.Bool.{Bool, true, false}
-use Prim.Native.Nat.{ℕ, _*_, _%_, _^_, _≤_, _<_}
+use mathlib.Core.Path.{_≡_, sym, ap, subst, _∙_}
+use mathlib.Core.Bool.{true, false}
+use Prim.Native.Nat.{ℕ, _*_, _%_, _^_, _<_}
 use native.Mathlib.Omega.{arith}
 use lib.Bits.{bitXor, xor-zero-l}
-use lib.ListN.{length, getD, set, take}
+use lib.ListN.{length, getD, set}
 use Rattle.std.specs.Orderings.{Decides}
 use Rattle.std.specs.declared.result.Result.the-variants.{Ok, Err}
 use Rattle.std.specs.shelf.Lists.{inserted, removed}
@@ -44,45 +44,45 @@ fresh-is e k is =
 
 -- the cell that the code reads at place i, which has the key of e
 module _ (b : Cells) (e : Entry) (i : ℕ) (found : CellFinding e (cells b) (Ok i)) where
-  pub inside : i < b .used
-  inside = let n = length-take-le (b .used) (b .list .now) (b .inside) in omega (arith, found .0)
+  pub inside : i < b .store .used
+  inside = let n = length-take-le (b .store .used) (b .store .list .now) (b .inside) in omega (arith, found .0)
 
-  reads : getD (cells b) i no-cell ≡ getD (b .list .now) i no-cell
-  reads = getD-take (b .used) (b .list .now) i no-cell inside
+  reads : getD (cells b) i no-cell ≡ getD (b .store .list .now) i no-cell
+  reads = getD-take (b .store .used) (b .store .list .now) i no-cell inside
 
   key : KeyOf (getD (cells b) i no-cell) e
   key = subst (λ c. KeyOf c e) (getD-default (cells b) i (key-cell e) no-cell (found .0)) (found .1)
 
-  pub set-tells : Decides (has (getD (b .list .now) i no-cell .rights) (bit (e .right))) (In e (packed b))
+  pub set-tells : Decides (has (getD (b .store .list .now) i no-cell .rights) (bit (e .right))) (In e (packed b))
   set-tells = subst (λ c. Decides (has (c .rights) (bit (e .right))) (In e (packed b))) reads (turn.stands-if-set e (cells b) (b .ceiling) i no-cell (orderly-book b) (found .0) key)
 
   module _ (k : ℕ) (is : k ≡ bit (e .right)) where
-    written : turned (getD (cells b) i no-cell) e ≡ flipped (getD (b .list .now) i no-cell) k
+    written : turned (getD (cells b) i no-cell) e ≡ flipped (getD (b .store .list .now) i no-cell) k
     written = ap (λ c. turned c e) reads ∙ sym (flipped-is _ e k is)
 
-    module _ (unset : has (getD (b .list .now) i no-cell .rights) (bit (e .right)) ≡ false) (good : Proper e) (room : length (packed b) < b .ceiling) where
+    module _ (unset : has (getD (b .store .list .now) i no-cell .rights) (bit (e .right)) ≡ false) (good : Proper e) (room : length (packed b) < b .ceiling) where
       off : has (getD (cells b) i no-cell .rights) (bit (e .right)) ≡ false
       off = ap (λ c. has (c .rights) (bit (e .right))) reads ∙ unset
 
-      pub put-written : held (set (cells b) i (flipped (getD (b .list .now) i no-cell) k)) ≡ with-entry e (packed b)
+      pub put-written : held (set (cells b) i (flipped (getD (b .store .list .now) i no-cell) k)) ≡ with-entry e (packed b)
       put-written = subst (λ c. held (set (cells b) i c) ≡ with-entry e (packed b)) written (turn.put-set e (cells b) (b .ceiling) i no-cell (orderly-book b) (found .0) key off good room)
 
-      pub put-writes : Orderly (set (cells b) i (flipped (getD (b .list .now) i no-cell) k)) (b .ceiling)
+      pub put-writes : Orderly (set (cells b) i (flipped (getD (b .store .list .now) i no-cell) k)) (b .ceiling)
       put-writes = subst (λ c. Orderly (set (cells b) i c) (b .ceiling)) written (turn.put-set-orderly e (cells b) (b .ceiling) i no-cell (orderly-book b) (found .0) key off good room)
 
-    module _ (is-set : has (getD (b .list .now) i no-cell .rights) (bit (e .right)) ≡ true) where
+    module _ (is-set : has (getD (b .store .list .now) i no-cell .rights) (bit (e .right)) ≡ true) where
       on : has (getD (cells b) i no-cell .rights) (bit (e .right)) ≡ true
       on = ap (λ c. has (c .rights) (bit (e .right))) reads ∙ is-set
 
-      pub take-written : held (set (cells b) i (flipped (getD (b .list .now) i no-cell) k)) ≡ without-entry e (packed b)
+      pub take-written : held (set (cells b) i (flipped (getD (b .store .list .now) i no-cell) k)) ≡ without-entry e (packed b)
       take-written = subst (λ c. held (set (cells b) i c) ≡ without-entry e (packed b)) written (turn.take-set′ e (cells b) (b .ceiling) i no-cell (orderly-book b) (found .0) key on)
 
-      pub take-writes : (length (unpacked (getD (b .list .now) i no-cell)) ≡ 1 → ⊥) → Orderly (set (cells b) i (flipped (getD (b .list .now) i no-cell) k)) (b .ceiling)
+      pub take-writes : (length (unpacked (getD (b .store .list .now) i no-cell)) ≡ 1 → ⊥) → Orderly (set (cells b) i (flipped (getD (b .store .list .now) i no-cell) k)) (b .ceiling)
       take-writes more =
           subst (λ c. Orderly (set (cells b) i c) (b .ceiling)) written
           (turn.take-set-orderly e (cells b) (b .ceiling) i no-cell (orderly-book b) (found .0) key on (λ one. more (ap (λ c. length (unpacked c)) (sym reads) ∙ one)))
 
-      module _ (one : length (unpacked (getD (b .list .now) i no-cell)) ≡ 1) where
+      module _ (one : length (unpacked (getD (b .store .list .now) i no-cell)) ≡ 1) where
         pub take-removed : held (removed (cells b) i) ≡ without-entry e (packed b)
         take-removed = turn.take-cell e (cells b) (b .ceiling) i no-cell (orderly-book b) (found .0) key on (ap (λ c. length (unpacked c)) reads ∙ one)
 
@@ -102,8 +102,8 @@ module _ (b : Cells) (e : Entry) (i : ℕ) (found : CellFinding e (cells b) (Err
     put-inserts = subst (λ c. Orderly (inserted (cells b) i c) (b .ceiling)) (sym (fresh-is e k is)) (turn.put-cell-orderly e (cells b) (b .ceiling) i (orderly-book b) found good room)
 
 -- no more cells are used than entries stand, so there is room for one more below the ceiling
-pub cell-room : (b : Cells) → b .count < b .ceiling → b .used < length (b .list .now)
+pub cell-room : (b : Cells) → b .count < b .ceiling → b .store .used < length (b .store .list .now)
 cell-room b less =
-    let n = length-take-le (b .used) (b .list .now) (b .inside) in
+    let n = length-take-le (b .store .used) (b .store .list .now) (b .inside) in
     let few = few-cells (cells b) (orderly-book b .filled) in
     omega (arith, b .total, b .room)

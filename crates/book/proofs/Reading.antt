@@ -1,8 +1,8 @@
 -- The entry at a place: in a cell by its bits, and in a list of cells by their running counts.
-use mathlib.Core.Path.{_≡_, refl, sym, ap, subst, _∙_}
-use mathlib.Core.Bool.{Bool, true, false, cond}
-use mathlib.Core.Logic.{_⊎_, inl, inr, ⊎-elim}
-use mathlib.Core.List.{List, [], _∷_, _++_}
+use mathlib.Core.Path.{_≡_, sym, ap, subst, _∙_}
+use mathlib.Core.Bool.{true, false, cond}
+use mathlib.Core.Logic.{⊎-elim}
+use mathlib.Core.List.{List, [], _∷_}
 use Prim.Native.Nat.{ℕ, zero, suc, _+_, _-_, _≤_, _<_}
 use native.Mathlib.Nat.{zero-add}
 use native.Mathlib.Omega.{arith}
@@ -14,11 +14,11 @@ use Rattle.std.proofs.shelf.Maps.{nth-getD}
 use Rattle.std.proofs.shelf.Tests.{cases-lt}
 use Rattle.rights.specs.declared.entries.Entry.{Entry}
 use Rattle.rights.specs.declared.vocabulary.Right.{Right}
-use Rattle.rights.specs.Bits.{bit, rows}
+use Rattle.rights.specs.Bits.{rows}
 use Rattle.book.specs.declared.keyed.Cell.{Cell}
-use Rattle.book.specs.Cells.{has, entry-of, picked, unpacked, held, numbered}
+use Rattle.book.specs.Cells.{has, picked, unpacked, held, numbered}
 use Rattle.book.specs.Places.{Parts, Falling}
-use Rattle.book.proofs.Counts.{numbered-at, length-held-push, held-parts}
+use Rattle.book.proofs.Counts.{numbered-at, length-held-push}
 use Rattle.book.proofs.Table.{row-numbered}
 use Rattle.book.proofs.Turns.{held-whole}
 

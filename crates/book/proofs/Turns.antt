@@ -1,6 +1,6 @@
 -- What a turned bit, a new cell or a cell less makes of the entries of a list of cells.
 use mathlib.Core.Path.{_≡_, refl, sym, ap, subst, _∙_}
-use mathlib.Core.Bool.{Bool, true, false}
+use mathlib.Core.Bool.{true, false}
 use mathlib.Core.Logic.{_⊎_, inl, inr, ⊎-elim}
 use mathlib.Core.List.{List, [], _∷_, _++_}
 use Prim.Native.Nat.{ℕ, zero, suc, _+_, _≤_, _<_}
@@ -17,7 +17,7 @@ use Rattle.rights.specs.Bits.{bit}
 use Rattle.rights.specs.Entries.{Proper, RisingEntries}
 use Rattle.rights.specs.Lists.{In, Rising}
 use Rattle.book.specs.declared.keyed.Cell.{Cell}
-use Rattle.book.specs.Cells.{has, entry-of, unpacked, held, KeyBefore, key-cell, CellFinding, Orderly}
+use Rattle.book.specs.Cells.{has, unpacked, held, KeyBefore, key-cell, CellFinding, Orderly}
 use Rattle.book.specs.Effects.{with-entry, without-entry}
 use Rattle.book.proofs.Counts.{held-parts}
 use Rattle.book.proofs.Heaps.{key-transitive, held-append, held-rises, put-middle, take-middle, not-below, not-after, in-append, append-in}

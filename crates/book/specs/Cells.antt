@@ -1,6 +1,6 @@
 -- Cells: all entries of one subject, table and grantor, as a map of bits by bit number.
 -- unpacked: the entries of a cell. held: those of a list of cells. KeyBefore: the order of cells.
--- climbs, numbered: the tests of a list that rises by key, and of its running counts.
+-- climbs, numbered: the tests of a list that rises by key, and of its running counts. counted-on: the list with such counts.
 -- CellFinding: where the cell of an entry stands or belongs. Orderly: what a book's cells must be.
 use mathlib.Core.Path.{_≡_}
 use mathlib.Core.Bool.{Bool, true, cond, _&&_}
@@ -53,6 +53,14 @@ climbs (c ∷ cs) = all-pass (key-before c) cs && climbs cs
 unfoldable pub numbered : ℕ → List Cell → Bool
 numbered n [] = true
 numbered n (c ∷ cs) = (eqb (c .earlier) n && ltb 0 (length (unpacked c))) && numbered (n + length (unpacked c)) cs
+
+abbrev pub recounted : Cell → ℕ → Cell
+recounted c n = record { subject = c .subject; table = c .table; grantor = c .grantor; rights = c .rights; earlier = n }
+
+-- the same cells with the running counts, n before the first
+unfoldable pub counted-on : ℕ → List Cell → List Cell
+counted-on n [] = []
+counted-on n (c ∷ cs) = recounted c n ∷ counted-on (n + length (unpacked c)) cs
 
 -- an empty cell with the key of an entry
 abbrev pub key-cell : Entry → Cell

@@ -3,3 +3,4 @@ pub mod Effects
 pub mod Packing
 pub mod Places
 pub mod Standing
+pub mod Stores

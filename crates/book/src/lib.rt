@@ -7,9 +7,9 @@ mod order;
 mod packed;
 mod places;
 mod plain;
+mod store;
 
 pub use keyed::Cell;
-pub use making::check;
 pub use meaning::Book;
 pub use packed::Cells;
 pub use packed::CellsBook;

@@ -1,4 +1,4 @@
-// The check before a book is made.
+// The check before a book is made, and the ceiling that it is made with.
 use rights::BookFault;
 ghost use Rattle.rights.specs.Checks.{First, fault-of};
 ghost use Rattle.book.specs.Effects.{make-checks, Ceiling};
@@ -6,7 +6,7 @@ ghost use Rattle.book.specs.Effects.{make-checks, Ceiling};
 const LIMIT: usize = 4096;
 
 // Refuses a list shorter than the ceiling wanted, and a ceiling of 0 or above 4,096.
-pub fn check(room: usize, wanted: usize) -> Result<(), BookFault>
+pub(crate) fn check_room(room: usize, wanted: usize) -> Result<(), BookFault>
     ensures { λ r. ⌜ First (make-checks room wanted) (fault-of r) ⌝ }
 {
     if room < wanted {
@@ -22,7 +22,7 @@ pub fn check(room: usize, wanted: usize) -> Result<(), BookFault>
 pub(crate) fn ceiling(room: usize, wanted: usize) -> usize
     ensures { λ r. ⌜ Ceiling room wanted r ⌝ }
 {
-    match check(room, wanted) {
+    match check_room(room, wanted) {
         Ok(()) => wanted,
         Err(_) => 0,
     }

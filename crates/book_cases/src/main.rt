@@ -13,6 +13,7 @@ use rights::Right;
 use rights::Sign;
 use rights::Strength;
 use std::io;
+use steps::number;
 use steps::run;
 use trial::first_with;
 
@@ -31,6 +32,11 @@ fn main(rt: LibcRuntime) -> io::Result<()> {
         rights: 0,
         earlier: 0,
     }; 24];
+    for wanted in [20, 25, 0] {
+        let one = number(Plain::check(&records, wanted));
+        let two = number(Cells::check(&cells, wanted));
+        println!(rt, "ceiling {wanted}: {one} {two}")?;
+    }
     let mut plain = Plain::new(&mut records, 20);
     let mut packed = Cells::new(&mut cells, 20);
     let tally = run(&mut plain, &mut packed, 4000);

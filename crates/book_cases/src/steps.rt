@@ -85,7 +85,8 @@ fn alike<A: Book, B: Book>(a: &A, b: &B) -> bool {
     true
 }
 
-fn number(r: Result<(), BookFault>) -> u8 {
+// The refusal's number, 0 where nothing was refused.
+pub(crate) fn number(r: Result<(), BookFault>) -> u8 {
     match r {
         Ok(()) => 0,
         Err(fault) => fault.number(),

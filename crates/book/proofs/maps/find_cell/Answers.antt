@@ -2,7 +2,7 @@ use mathlib.Core.Path.{refl, subst}
 use native.Mathlib.Omega.{arith}
 use Rattle.std.proofs.shelf.Lists.{getD-default}
 use Rattle.std.proofs.shelf.Tests.{false≢true}
-use Rattle.book.specs.Cells.{KeyBefore, entry-of, key-cell}
+use Rattle.book.specs.Cells.{KeyBefore, key-cell}
 use Rattle.book.proofs.Finds.{rising-falls}
 use Rattle.book.proofs.Heaps.{key-transitive, cell-belongs}
 use Rattle.book.proofs.Unpacked.{KeyOf}

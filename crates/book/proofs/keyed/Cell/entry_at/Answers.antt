@@ -1,7 +1,7 @@
-use mathlib.Core.Path.{_≡_, refl, sym, ap, subst, _∙_}
+use mathlib.Core.Path.{_≡_, sym, ap, subst, _∙_}
 use mathlib.Core.Bool.{true, false}
-use mathlib.Core.List.{List, [], _∷_}
-use Prim.Native.Nat.{ℕ, _+_, _-_, _≤_, _<_}
+use mathlib.Core.List.{[]}
+use Prim.Native.Nat.{ℕ, _+_, _-_, _<_}
 use native.Mathlib.Omega.{arith}
 use lib.ListN.{length, getD, drop}
 use Rattle.std.specs.declared.option.Option.{Option}
@@ -13,7 +13,7 @@ use Rattle.rights.specs.declared.vocabulary.Right.{Right}
 use Rattle.rights.specs.declared.vocabulary.Privilege.{Privilege}
 use Rattle.rights.specs.declared.vocabulary.Sign.{Sign}
 use Rattle.rights.specs.declared.vocabulary.Strength.{Strength}
-use Rattle.rights.specs.Bits.{bit, rows}
+use Rattle.rights.specs.Bits.{rows}
 use Rattle.rights.proofs.Bits.{bit-injective}
 use Rattle.book.specs.declared.keyed.Cell.{Cell}
 use Rattle.book.specs.Cells.{has, entry-of, picked}

@@ -4,7 +4,6 @@ use Prim.Native.Nat.{_<_}
 use native.Mathlib.Omega.{arith}
 use lib.ListN.{length}
 use Rattle.std.proofs.shelf.Tests.{false≢true}
-use Rattle.rights.specs.Bits.{bit}
 use Rattle.rights.specs.Checks.{First}
 use Rattle.book.specs.Cells.{has}
 use Rattle.book.specs.Packing.{packed}

@@ -1,10 +1,9 @@
-use mathlib.Core.Path.{_≡_, refl, sym, ap, _∙_}
+use mathlib.Core.Path.{_≡_, refl, sym, _∙_}
 use mathlib.Core.Logic.{inl, inr}
 use Prim.Native.Nat.{_<_}
 use native.Mathlib.Omega.{arith}
 use lib.ListN.{length}
 use Rattle.std.proofs.shelf.Lists.{length-take-le}
-use Rattle.rights.specs.Bits.{bit}
 use Rattle.rights.specs.Checks.{First}
 use Rattle.book.specs.Packing.{packed}
 use Rattle.book.specs.declared.packed.Cells.{Cells}
@@ -30,7 +29,7 @@ pub insert-requires : need.insert-requires
 insert-requires c κs =
     let b = c .args .self .now in
     record {
-      place = omega (arith, c .pre .cell .0, length-take-le (b .used) (b .list .now) (b .inside));
+      place = omega (arith, c .pre .cell .0, length-take-le (b .store .used) (b .store .list .now) (b .inside));
       room = cell-room b (omega (arith, b .counted, c .if-self .left));
       orderly = put-inserts b (c .args .e) (c .args .i) (c .pre .cell) (c .bit-number-k .result) (c .bit-number-k .ensures) (c .pre .proper) (below b (c .if-self .left));
     }

@@ -1,13 +1,9 @@
-use mathlib.Core.Path.{_≡_, refl, sym, ap, _∙_}
+use mathlib.Core.Path.{refl, sym, ap, _∙_}
 use mathlib.Core.Logic.{inl, inr}
-use Prim.Native.Nat.{_<_}
 use native.Mathlib.Omega.{arith}
-use lib.ListN.{length}
 use Rattle.std.proofs.shelf.Tests.{false≢true}
-use Rattle.rights.specs.Bits.{bit}
 use Rattle.rights.specs.Checks.{First}
 use Rattle.book.specs.Cells.{has}
-use Rattle.book.specs.Packing.{packed}
 use Rattle.rights.proofs.Bits.{bit-below}
 use Rattle.book.proofs.Packs.{inside, set-tells, take-written, take-writes, take-removed, take-removes}
 use Rattle.book.proofs.packed.Cells.take_from.Needs as need

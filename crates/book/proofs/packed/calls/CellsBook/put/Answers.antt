@@ -1,5 +1,5 @@
 use mathlib.Core.Path.{refl}
-use mathlib.Core.Logic.{inl, inr}
+use mathlib.Core.Logic.{inl}
 use Rattle.std.proofs.shelf.Tests.{false≢true}
 use Rattle.rights.specs.Checks.{First}
 use Rattle.book.proofs.packed.calls.CellsBook.put.Needs as need

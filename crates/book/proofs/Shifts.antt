@@ -1,0 +1,100 @@
+-- What a copy within a list leaves when a place is made for one element more, or closed after one less.
+-- shifted-up, shifted-down, written: the whole list after, as the front and the rest.
+-- insert-becomes, remove-becomes, write-becomes: the same, told of a store. becomes-again: one change after another.
+use mathlib.Core.Path.{_≡_, refl, sym, ap, subst, _∙_}
+use mathlib.Core.List.{List, [], _∷_, _++_}
+use Prim.Native.Nat.{ℕ, zero, suc, _+_, _-_, _≤_, _<_}
+use native.Mathlib.Numerals.{add-one}
+use native.Mathlib.Omega.{arith}
+use lib.ListN.{length, set, take, drop}
+use lib.Seq.{paste}
+use denote.Ref.{now}
+use Rattle.std.specs.shelf.Lists.{inserted, removed}
+use Rattle.std.proofs.shelf.Edits.{length-inserted, length-removed}
+use Rattle.std.proofs.shelf.Lists.{length-append, length-set, length-take-le, length-drop, take-all, take-take, take-append-le, take-append-drop, drop-all, drop-append-le, drop-take}
+use Rattle.book.specs.declared.store.Store.{Store}
+use Rattle.book.specs.Stores.{stored, Backed, Becomes}
+
+module _ {X : Type 0} where
+  -- the first n places from place k on
+  middle : (k n : ℕ) (xs : List X) → k ≤ n → take (n - k) (drop k xs) ≡ drop k (take n xs)
+  middle k n xs le = let e : k + (n - k) ≡ n = omega arith in sym (drop-take k (n - k) xs) ∙ ap (λ m. drop k (take m xs)) e
+
+  -- the element at place k gives way to x
+  replaced : (k : ℕ) (xs : List X) (x : X) (front rest : List X) → k < length xs → set (take (suc k) xs ++ front ++ rest) k x ≡ take k xs ++ x ∷ front ++ rest
+  replaced k [] x front rest h = absurd (omega arith)
+  replaced zero (y ∷ ys) x front rest h = refl
+  replaced (suc k) (y ∷ ys) x front rest h = ap (λ l. y ∷ l) (replaced k ys x front rest (omega arith))
+
+  -- the places from k on, n in all, moved up by one, and x put at k
+  shifted-up : (k n : ℕ) (xs : List X) (x : X) → k ≤ n → n < length xs → set (paste xs (k + 1) (drop k xs) (n - k)) k x ≡ inserted (take n xs) k x ++ drop (n + 1) xs
+  shifted-up k n xs x le room =
+      let e : k + 1 + (n - k) ≡ n + 1 = omega arith in
+      ap (λ m. set (take m xs ++ take (n - k) (drop k xs) ++ drop (k + 1 + (n - k)) xs) k x) (add-one k)
+      ∙ replaced k xs x (take (n - k) (drop k xs)) (drop (k + 1 + (n - k)) xs) (omega arith)
+      ∙ ap (λ l. take k xs ++ x ∷ l ++ drop (k + 1 + (n - k)) xs) (middle k n xs le)
+      ∙ ap (λ l. l ++ x ∷ drop k (take n xs) ++ drop (k + 1 + (n - k)) xs) (sym (take-take k n xs le))
+      ∙ ap (λ m. inserted (take n xs) k x ++ drop m xs) e
+
+  -- the places past k, of n in all, moved down by one
+  shifted-down : (k n : ℕ) (xs : List X) → k < n → paste xs k (drop (k + 1) xs) (n - (k + 1)) ≡ removed (take n xs) k ++ drop (n - 1) xs
+  shifted-down k n xs less =
+      let e : k + (n - (k + 1)) ≡ n - 1 = omega arith in
+      ap (λ l. take k xs ++ l ++ drop (k + (n - (k + 1))) xs) (middle (k + 1) n xs (omega arith) ∙ ap (λ m. drop m (take n xs)) (add-one k))
+      ∙ ap (λ l. l ++ drop (suc k) (take n xs) ++ drop (k + (n - (k + 1))) xs) (sym (take-take k n xs (omega arith)))
+      ∙ ap (λ m. removed (take n xs) k ++ drop m xs) e
+
+  written : (k n : ℕ) (xs : List X) (x : X) → k < n → set xs k x ≡ set (take n xs) k x ++ drop n xs
+  written k zero xs x less = absurd (omega arith)
+  written k (suc n) [] x less = refl
+  written zero (suc n) (y ∷ ys) x less = ap (λ l. x ∷ l) (sym (take-append-drop n ys))
+  written (suc k) (suc n) (y ∷ ys) x less = ap (λ l. y ∷ l) (written k n ys x (omega arith))
+
+  -- a store whose list is ys and then the rest as it was
+  becomes : (s after : Store X) (ys : List X) → now (after .list) ≡ ys ++ drop (after .used) (now (s .list)) → length ys ≡ after .used → after .used ≤ length (now (s .list)) → Becomes s ys after
+  becomes s after ys is size room =
+      let long = ap length is ∙ length-append ys (drop (after .used) (now (s .list))) in
+      let rest = length-drop (after .used) (now (s .list)) in
+      record {
+        holds = ap (take (after .used)) is ∙ take-append-le (after .used) ys _ (omega arith) ∙ take-all (after .used) ys (omega arith);
+        inside = omega arith;
+        long = omega arith;
+        rest = ap (drop (after .used)) is ∙ drop-append-le (after .used) ys _ (omega arith) ∙ ap (λ l. l ++ drop (after .used) (now (s .list))) (drop-all (after .used) ys (omega arith));
+      }
+
+module _ {X : Type 0} (s after : Store X) (k : ℕ) where
+  pub insert-becomes : (x : X) → s .used < length (now (s .list)) → k ≤ s .used → after .used ≡ s .used + 1 → now (after .list) ≡ set (paste (now (s .list)) (k + 1) (drop k (now (s .list))) (s .used - k)) k x → Becomes s (inserted (stored s) k x) after
+  insert-becomes x room place more is =
+      let size = length-take-le (s .used) (now (s .list)) (omega arith) in
+      let longer = length-inserted (stored s) k x (omega arith) in
+      becomes s after _ (is ∙ shifted-up k (s .used) (now (s .list)) x place room ∙ ap (λ n. inserted (stored s) k x ++ drop n (now (s .list))) (sym more)) (omega arith) (omega arith)
+
+  pub remove-becomes : Backed s → k < s .used → after .used ≡ s .used - 1 → now (after .list) ≡ paste (now (s .list)) k (drop (k + 1) (now (s .list))) (s .used - (k + 1)) → Becomes s (removed (stored s) k) after
+  remove-becomes inside place less is =
+      let size = length-take-le (s .used) (now (s .list)) inside in
+      let shorter = length-removed (stored s) k (omega arith) in
+      becomes s after _ (is ∙ shifted-down k (s .used) (now (s .list)) place ∙ ap (λ n. removed (stored s) k ++ drop n (now (s .list))) (sym less)) (omega arith) (omega arith)
+
+  pub write-becomes : (x : X) → Backed s → k < s .used → after .used ≡ s .used → now (after .list) ≡ set (now (s .list)) k x → Becomes s (set (stored s) k x) after
+  write-becomes x inside place same is =
+      let size = length-set (stored s) k x ∙ length-take-le (s .used) (now (s .list)) inside in
+      becomes s after _ (is ∙ written k (s .used) (now (s .list)) x place ∙ ap (λ n. set (stored s) k x ++ drop n (now (s .list))) (sym same)) (omega arith) (omega arith)
+
+module _ {X : Type 0} where
+  -- the places before i, in a list that goes on otherwise from there
+  pub front-first : (i : ℕ) (xs ys : List X) → i ≤ length xs → take i (take i xs ++ ys) ≡ take i xs
+  front-first i xs ys h = take-append-le i (take i xs) ys (omega (arith, length-take-le i xs h)) ∙ take-take i i xs (omega arith)
+
+  pub size-after : (s after : Store X) (xs : List X) → Becomes s xs after → after .used ≡ length xs
+  size-after s after xs to = sym (length-take-le (after .used) (now (after .list)) (to .inside)) ∙ ap length (to .holds)
+
+  -- two changes, the second of which leaves as many places
+  pub becomes-again : (s between after : Store X) (xs ys : List X) → Becomes s xs between → Becomes between ys after → length ys ≡ length xs → Becomes s ys after
+  becomes-again s between after xs ys to on same =
+      let used : between .used ≡ after .used = size-after s between xs to ∙ sym same ∙ sym (size-after between after ys on) in
+      record {
+        holds = on .holds;
+        inside = on .inside;
+        long = on .long ∙ to .long;
+        rest = on .rest ∙ subst (λ n. drop n (now (between .list)) ≡ drop n (now (s .list))) used (to .rest);
+      }
