@@ -287,16 +287,23 @@ fn rust_cells(parts: u32) -> u32 {
     run(&mut Cells { rows: rows(), list: &mut list, used: 0, count: 0, ceiling: 4096 }, parts)
 }
 
-// the least of seven runs, in milliseconds, and what the run answered
-fn time(f: impl Fn(u32) -> u32, parts: u32) -> (f64, u32) {
-    let mut best = f64::MAX;
-    let mut sum = 0;
-    for _ in 0..7 {
-        let from = Instant::now();
-        sum = black_box(f(black_box(parts)));
-        best = best.min(from.elapsed().as_secs_f64() * 1000.0);
+// one run, in milliseconds, and what it answered
+fn time(f: fn(u32) -> u32, parts: u32) -> (f64, u32) {
+    let from = Instant::now();
+    let sum = black_box(f(black_box(parts)));
+    (from.elapsed().as_secs_f64() * 1000.0, sum)
+}
+
+// the least times of either, run in turn so that both meet the same machine
+fn least(ours: fn(u32) -> u32, theirs: fn(u32) -> u32, parts: u32) -> (f64, f64) {
+    let mut best = (f64::MAX, f64::MAX);
+    for _ in 0..51 {
+        let (a, x) = time(ours, parts);
+        let (b, y) = time(theirs, parts);
+        assert_eq!(x, y, "different answers");
+        best = (best.0.min(a), best.1.min(b));
     }
-    (best, sum)
+    best
 }
 
 fn main() {
@@ -307,9 +314,7 @@ fn main() {
         ("plain book against block moves", |p| unsafe { plain_run(p) }, rust_plain::<Block>),
     ] {
         for (p, what) in parts.iter().enumerate() {
-            let (a, x) = time(ours, p as u32);
-            let (b, y) = time(theirs, p as u32);
-            assert_eq!(x, y, "{book}: {what}: different answers");
+            let (a, b) = least(ours, theirs, p as u32);
             println!("{book}, {what}: {a:.2} ms, Rust {b:.2} ms, ratio {:.2}", a / b);
         }
     }
