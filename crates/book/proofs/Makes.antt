@@ -1,17 +1,17 @@
 -- What the check before a book is made tells of its ceiling.
 use mathlib.Core.Logic.{inl, inr, ⊎-elim}
-use mathlib.Core.Path.{_≡_}
 use Prim.Native.Nat.{ℕ, _≤_, _<_}
 use native.Mathlib.Omega.{arith}
 use Rattle.std.specs.declared.option.Option.the-variants.{None}
 use Rattle.rights.specs.Checks.{First}
+use Rattle.rights.proofs.Checks.{none-some}
 use Rattle.book.specs.Effects.{make-checks, Ceiling}
 
 passed : (room wanted : ℕ) → First (make-checks room wanted) None → (wanted ≤ room) × (wanted ≤ 4096)
 unfolding First
-passed room wanted (inl h) = absurd (let z : _≡_ {A = ℕ} 0 1 = cc (h .1) in omega arith)
+passed room wanted (inl h) = absurd (none-some _ (h .1))
 passed room wanted (inr h) =
-    ⊎-elim (λ k. absurd (let z : _≡_ {A = ℕ} 0 1 = cc (k .1) in omega arith))
+    ⊎-elim (λ k. absurd (none-some _ (k .1)))
     (λ k. (let a = h .0 in omega arith, let b : 4096 < wanted → ⊥ = (λ l. k .0 (inr l)) in omega arith)) (h .1)
 
 pub ceiling-fits : (room wanted most : ℕ) → Ceiling room wanted most → (most ≤ room) × (most ≤ 4096)

@@ -4,8 +4,7 @@ use mathlib.Core.Bool.{true}
 use mathlib.Core.Logic.{inr, ⊎-elim}
 use mathlib.Core.List.{List}
 use Prim.Native.Nat.{ℕ}
-use native.Mathlib.Omega.{arith}
-use Rattle.std.specs.declared.option.Option.the-variants.{Some, None}
+use Rattle.std.specs.declared.option.Option.the-variants.{None}
 use Rattle.std.specs.declared.result.Result.{Result}
 use Rattle.std.specs.declared.result.Result.the-variants.{Ok, Err}
 use Rattle.std.specs.Results.{isOk}
@@ -14,6 +13,7 @@ use Rattle.rights.specs.declared.faults.BookFault.{BookFault}
 use Rattle.rights.specs.Checks.{First, fault-of}
 use Rattle.rights.specs.Entries.{RisingEntries}
 use Rattle.rights.specs.Lists.{In}
+use Rattle.rights.proofs.Checks.{none-some}
 use Rattle.book.specs.Effects.{with-entry, without-entry, put-checks, take-checks}
 use Rattle.book.proofs.Members.{in-with, with-in, with-rises, in-without, without-in, without-rises, gone, same-members}
 
@@ -24,13 +24,10 @@ put-undone e es up new =
     (λ x i. ⊎-elim (λ p. absurd (gone e _ vp (subst (λ y. In y (without-entry e (with-entry e es))) p i))) (λ k. k) (in-with x e es (in-without x e _ i)))
     (λ x i. without-in x e _ (with-in x e es (inr i)) (λ p. new (subst (λ y. In y es) p i)))
 
-nothing : {X : Type 0} (x : X) → None ≡ Some x → ⊥
-nothing x p = let z : _≡_ {A = ℕ} 0 1 = cc in omega arith
-
 -- what was put is not refused when it is taken
 pub then-taken : {T : Type 0} (e : Entry) (es fs : List Entry) (most : ℕ) (r : Result T BookFault) → First (put-checks es most e) None → First (take-checks fs e) (fault-of r) → In e fs → isOk r ≡ true
 unfolding First
 then-taken e es fs most (Ok x) put taken stands = refl
 then-taken e es fs most (Err f) put taken stands =
-    ⊎-elim (λ h. absurd (nothing _ (h .1)))
-    (λ good. ⊎-elim (λ h. absurd (good .0 (h .0))) (λ h. ⊎-elim (λ k. absurd (k .0 stands)) (λ k. absurd (nothing _ (sym (k .1)))) (h .1)) taken) put
+    ⊎-elim (λ h. absurd (none-some _ (h .1)))
+    (λ good. ⊎-elim (λ h. absurd (good .0 (h .0))) (λ h. ⊎-elim (λ k. absurd (k .0 stands)) (λ k. absurd (none-some _ (sym (k .1)))) (h .1)) taken) put

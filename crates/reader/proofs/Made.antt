@@ -12,23 +12,25 @@ use Rattle.std.proofs.shelf.Equals.{ReadsAt, text-from-reads}
 use Rattle.std.proofs.shelf.Lists.{length-take-le, take-append-drop, drop-replicate, take-at, drop-at, length-append, length-replicate}
 use Rattle.rights.specs.declared.commands.Command.{Command}
 use Rattle.rights.specs.declared.commands.Named.{Named}
+use Rattle.rights.specs.Read.{tables-in}
+use Rattle.rights.proofs.Checks.{none-some}
 use Rattle.reader.specs.declared.words.Word.{Word}
 use Rattle.reader.specs.Exactly.{Exactly}
-use Rattle.reader.specs.Spelling.{word, tables, numbers, Padded, PaddedView}
-use Rattle.reader.proofs.Spelled.{exactly-some, exactly-none, none-some}
+use Rattle.reader.specs.Spelling.{word, numbers, Padded, PaddedView}
+use Rattle.reader.proofs.Spelled.{exactly-some, exactly-none}
 
 -- the tables of a view are known by those that it names
 named-path : (d e : Named) → d .count ≡ e .count → d .tables ≡ e .tables → d ≡ e
 named-path d e p q = λ i. record { count = p i; tables = q i; few = isProp→PathP (λ j. p j ≤ 14) (λ j. le-prop) (d .few) (e .few) i }
 
-count-is : (d : Named) → Padded d → length (tables d) ≡ d .count
+count-is : (d : Named) → Padded d → length (tables-in d) ≡ d .count
 count-is d p = length-take-le (d .count) (d .tables) (omega (arith, d .few, p .whole))
 
-list-is : (d : Named) → Padded d → d .tables ≡ tables d ++ replicate (14 - length (tables d)) 0
+list-is : (d : Named) → Padded d → d .tables ≡ tables-in d ++ replicate (14 - length (tables-in d)) 0
 list-is d p =
-    sym (take-append-drop (d .count) (d .tables)) ∙ ap (λ r. tables d ++ r) (p .unused ∙ ap (λ n. replicate (14 - n) 0) (sym (count-is d p)))
+    sym (take-append-drop (d .count) (d .tables)) ∙ ap (λ r. tables-in d ++ r) (p .unused ∙ ap (λ n. replicate (14 - n) 0) (sym (count-is d p)))
 
-pub same-named : (d e : Named) → tables d ≡ tables e → Padded d → Padded e → d ≡ e
+pub same-named : (d e : Named) → tables-in d ≡ tables-in e → Padded d → Padded e → d ≡ e
 same-named d e same p q =
     named-path d e (sym (count-is d p) ∙ ap length same ∙ count-is e q)
     (list-is d p ∙ ap (λ ts. ts ++ replicate (14 - length ts) 0) same ∙ sym (list-is e q))
@@ -103,7 +105,7 @@ listed Word.Lend ns = []
 listed Word.Unlend ns = []
 listed Word.May ns = []
 
-listed-is : (c : Command) → tables (named-of c) ≡ listed (word c) (numbers c)
+listed-is : (c : Command) → tables-in (named-of c) ≡ listed (word c) (numbers c)
 listed-is (Command.User n c) = refl
 listed-is (Command.Group n) = refl
 listed-is Command.Open = refl
@@ -154,26 +156,26 @@ made c w ns same long reads p =
     exactly-some (Made w ns) c (sym same, sym e, p) (λ d h. same-command c d (sym same ∙ sym (h .0)) (sym e ∙ sym (h .1)) p (h .2))
 
 -- the first places of the list hold the tables, and the others 0
-pub named-made : (d : Named) (list : List ℕ) → d .count ≡ length list → d .tables ≡ list ++ drop (length list) (replicate 14 0) → Exactly (Some d) (λ x. (tables x ≡ list) × Padded x)
+pub named-made : (d : Named) (list : List ℕ) → d .count ≡ length list → d .tables ≡ list ++ drop (length list) (replicate 14 0) → Exactly (Some d) (λ x. (tables-in x ≡ list) × Padded x)
 named-made d list count places =
     let short = d .few in
     let filled : drop (length list) (replicate 14 0) ≡ replicate {A = ℕ} (14 - length list) 0 = drop-replicate (length list) 14 0 in
-    let front : tables d ≡ list = (λ i. take (count i) (places i)) ∙ take-at list (drop (length list) (replicate 14 0)) (length list) refl in
+    let front : tables-in d ≡ list = (λ i. take (count i) (places i)) ∙ take-at list (drop (length list) (replicate 14 0)) (length list) refl in
     let padded : Padded d = record {
       whole = ap length places ∙ length-append list _ ∙ omega (arith, ap length filled, length-replicate {A = ℕ} (14 - length list) 0);
       unused = (λ i. drop (count i) (places i)) ∙ drop-at list (drop (length list) (replicate 14 0)) (length list) refl ∙ filled ∙ ap (λ n. replicate (14 - n) 0) (sym count);
     } in
-    exactly-some (λ x. (tables x ≡ list) × Padded x) d (front, padded) (λ x h. same-named d x (front ∙ sym (h .0)) padded (h .1))
+    exactly-some (λ x. (tables-in x ≡ list) × Padded x) d (front, padded) (λ x h. same-named d x (front ∙ sym (h .0)) padded (h .1))
 
-pub view-made : (d : Named) (w : Word) (ns rest : List ℕ) → w ≡ Word.View → 2 ≤ length ns → rest ≡ drop 2 ns → (tables d ≡ rest) × Padded d → Exactly (Some (Command.View (getD ns 0 0) (getD ns 1 0) d)) (Made w ns)
+pub view-made : (d : Named) (w : Word) (ns rest : List ℕ) → w ≡ Word.View → 2 ≤ length ns → rest ≡ drop 2 ns → (tables-in d ≡ rest) × Padded d → Exactly (Some (Command.View (getD ns 0 0) (getD ns 1 0) d)) (Made w ns)
 view-made d w [] rest same long e h = absurd (omega arith)
 view-made d w (i ∷ []) rest same long e h = absurd (omega arith)
 view-made d w (i ∷ t ∷ ds) rest same long e h =
-    let all : i ∷ t ∷ tables d ≡ i ∷ t ∷ ds = ap (λ ts. i ∷ t ∷ ts) (h .0 ∙ e) in
+    let all : i ∷ t ∷ tables-in d ≡ i ∷ t ∷ ds = ap (λ ts. i ∷ t ∷ ts) (h .0 ∙ e) in
     exactly-some (Made w (i ∷ t ∷ ds)) (Command.View i t d) (sym same, all, h .1) (λ c m. same-command (Command.View i t d) c (sym same ∙ sym (m .0)) (all ∙ sym (m .1)) (h .1) (m .2))
 
 -- where no tables can be named so, there is no view
-pub view-none : (o : Option Named) (r : Option Command) (w : Word) (ns rest : List ℕ) → Exactly o (λ d. (tables d ≡ rest) × Padded d) → o ≡ None → r ≡ None → w ≡ Word.View → rest ≡ drop 2 ns → Exactly r (Made w ns)
+pub view-none : (o : Option Named) (r : Option Command) (w : Word) (ns rest : List ℕ) → Exactly o (λ d. (tables-in d ≡ rest) × Padded d) → o ≡ None → r ≡ None → w ≡ Word.View → rest ≡ drop 2 ns → Exactly r (Made w ns)
 view-none o r w ns rest told none gave same e =
     subst (λ x. Exactly x (Made w ns)) (sym gave)
     (exactly-none (Made w ns) (λ c m.

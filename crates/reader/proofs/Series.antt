@@ -1,18 +1,18 @@
 -- The numbers of a line, one after the other. Assumes nothing.
-use mathlib.Core.Path.{_≡_, refl, sym, ap, subst, _∙_}
+use mathlib.Core.Path.{_≡_, sym, ap, subst, _∙_}
 use mathlib.Core.List.{List, [], _∷_, _++_, map}
 use Prim.Native.Nat.{ℕ, _+_, _≤_, _<_}
 use native.Mathlib.Omega.{arith}
 use lib.ListN.{length, take, set}
-use Rattle.std.specs.declared.option.Option.the-variants.{Some, None}
+use Rattle.std.specs.declared.option.Option.the-variants.{None}
 use Rattle.std.specs.Written.{decimal}
 use Rattle.std.specs.shelf.Lists.{All}
 use Rattle.std.proofs.shelf.Elements.{all-push}
 use Rattle.std.proofs.shelf.Lists.{append-nil, append-assoc, length-append, length-map, length-set, length-take-le, map-push, take-more-set}
+use Rattle.rights.proofs.Checks.{none-some}
 use Rattle.reader.specs.Exactly.{Exactly}
 use Rattle.reader.specs.Reading.{Numbered}
 use Rattle.reader.proofs.Figures.{Reads}
-use Rattle.reader.proofs.Spelled.{none-some}
 
 -- the first of the parts all are the numbers counted so far, and rest is what is left
 pub record Sofar (all : List (List ℕ)) (count : ℕ) (values : List ℕ) (rest : List (List ℕ)) : Type 0 where

@@ -1,13 +1,9 @@
 -- How long an answer can be. Assumes nothing.
-use mathlib.Core.Path.{_≡_, ap}
-use mathlib.Core.List.{List, _++_}
-use Prim.Native.Nat.{ℕ, _+_, _^_, _≤_, _<_}
+use Prim.Native.Nat.{ℕ, _^_, _≤_, _<_}
 use native.Mathlib.Omega.{arith}
-use lib.Chars.{codes}
 use lib.ListN.{length}
 use Rattle.std.specs.Written.{decimal}
 use Rattle.std.proofs.shelf.Decimals.{length-decimal-le}
-use Rattle.std.proofs.shelf.Lists.{length-append}
 use Rattle.rights.specs.declared.commands.Ground.{Ground}
 use Rattle.rights.specs.declared.faults.BookFault.{BookFault}
 use Rattle.rights.specs.declared.faults.RollFault.{RollFault}

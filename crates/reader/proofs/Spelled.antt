@@ -4,20 +4,17 @@ use mathlib.Core.Bool.{cond}
 use mathlib.Core.List.{List, [], _∷_}
 use Prim.Native.Nat.{ℕ}
 use lib.ListN.{length}
-use native.Mathlib.Omega.{arith}
 use Rattle.std.specs.declared.option.Option.{Option}
 use Rattle.std.specs.declared.option.Option.the-variants.{Some, None}
 use Rattle.std.specs.shelf.Text.{sameBytes}
 use Rattle.std.proofs.shelf.Equals.{ReadsAt, text-from-reads}
+use Rattle.rights.proofs.Checks.{none-some}
 use Rattle.reader.specs.declared.words.Word.{Word}
 use Rattle.reader.specs.Exactly.{Exactly}
 use Rattle.reader.specs.Words.{text}
 
 pub exactly-some : {X : Type 0} (P : X → Type 0) (x : X) → P x → ((y : X) → P y → x ≡ y) → Exactly (Some x) P
 exactly-some P x here once y = (λ e. let same : x ≡ y = cc in rw (← same) here, λ h. ap Some (once y h))
-
-pub none-some : {X : Type 0} (x : X) → None ≡ Some x → ⊥
-none-some x e = let z : _≡_ {A = ℕ} 0 1 = cc in omega arith
 
 pub exactly-none : {X : Type 0} (P : X → Type 0) → ((y : X) → P y → ⊥) → Exactly None P
 exactly-none P never y = (λ e. absurd (none-some y e), λ h. absurd (never y h))

@@ -6,9 +6,9 @@ use mathlib.Core.List.{List, [], _∷_, _++_, map}
 use Prim.Native.Nat.{ℕ, _+_, _*_, _≤_, _<_}
 use native.Mathlib.Omega.{arith}
 use lib.Dec.{eqb}
-use lib.ListN.{length, getD, length-take}
+use lib.ListN.{length, length-take}
 use Rattle.std.specs.declared.option.Option.{Option}
-use Rattle.std.specs.declared.option.Option.the-variants.{Some, None}
+use Rattle.std.specs.declared.option.Option.the-variants.{None}
 use Rattle.std.specs.Written.{decimal}
 use Rattle.std.specs.shelf.Lists.{All}
 use Rattle.std.proofs.shelf.Decimals.{length-decimal-le, same-from-decimal}
@@ -16,16 +16,17 @@ use Rattle.std.proofs.shelf.Elements.{all-from-getD}
 use Rattle.std.proofs.shelf.Lists.{append-nil, length-append}
 use Rattle.std.proofs.shelf.Tests.{cases-eq, eq-eqb, ne-eqb, cond-true, cond-false}
 use Rattle.rights.specs.declared.commands.Command.{Command}
+use Rattle.rights.proofs.Checks.{none-some}
 use Rattle.reader.specs.declared.words.Word.{Word}
 use Rattle.reader.specs.Exactly.{Exactly}
 use Rattle.reader.specs.Lines.{Without, onto, parts}
 use Rattle.reader.specs.Reading.{Numbered}
-use Rattle.reader.specs.Spelling.{word, numbers, tables, spaced, written, Plain}
+use Rattle.reader.specs.Spelling.{word, numbers, spaced, written, Plain}
 use Rattle.reader.specs.Words.{text}
 use Rattle.reader.proofs.Figures.{figure-at}
 use Rattle.reader.proofs.Made.{Made}
 use Rattle.reader.proofs.Pieces.{parts-spaced, parts-last}
-use Rattle.reader.proofs.Spelled.{exactly-none, none-some, same-word}
+use Rattle.reader.proofs.Spelled.{exactly-none, same-word}
 
 -- the parts of a line, with the spaces between them again
 abbrev glued : List (List ℕ) → List ℕ

@@ -3,11 +3,12 @@
 use mathlib.Core.Path.{_≡_}
 use mathlib.Core.List.{List, [], _∷_, _++_, map}
 use Prim.Native.Nat.{ℕ, _-_, _≤_}
-use lib.ListN.{length, take, drop, replicate}
+use lib.ListN.{length, drop, replicate}
 use Rattle.std.specs.Written.{decimal}
 use Rattle.std.specs.shelf.Lists.{All}
 use Rattle.rights.specs.declared.commands.Command.{Command}
 use Rattle.rights.specs.declared.commands.Named.{Named}
+use Rattle.rights.specs.Read.{tables-in}
 use Rattle.reader.specs.declared.words.Word.{Word}
 use Rattle.reader.specs.Words.{text}
 
@@ -27,10 +28,6 @@ word (Command.Lend i s p t kind rank) = Word.Lend
 word (Command.Unlend i s p t kind rank) = Word.Unlend
 word (Command.May u p t) = Word.May
 
--- the tables that a view names
-abbrev pub tables : Named → List ℕ
-tables d = take (d .count) (d .tables)
-
 abbrev pub numbers : Command → List ℕ
 numbers (Command.User n c) = n ∷ c ∷ []
 numbers (Command.Group n) = n ∷ []
@@ -39,7 +36,7 @@ numbers Command.Close = []
 numbers (Command.Admit i m g) = i ∷ m ∷ g ∷ []
 numbers (Command.Remove i m g) = i ∷ m ∷ g ∷ []
 numbers (Command.Base i t) = i ∷ t ∷ []
-numbers (Command.View i t d) = i ∷ t ∷ tables d
+numbers (Command.View i t d) = i ∷ t ∷ tables-in d
 numbers (Command.Drop i t) = i ∷ t ∷ []
 numbers (Command.Give i s p sign t strength) = i ∷ s ∷ p ∷ sign ∷ t ∷ strength ∷ []
 numbers (Command.Ungive i s p sign t strength) = i ∷ s ∷ p ∷ sign ∷ t ∷ strength ∷ []

@@ -8,12 +8,13 @@ ghost use mathlib.Core.Path.{_≡_};
 ghost use Prim.Native.Nat.{_<_};
 ghost use lib.ListN.{length};
 ghost use Rattle.std.specs.declared.option.Option.the-variants.{None};
+ghost use Rattle.rights.specs.Read.{tables-in};
 ghost use Rattle.reader.specs.Exactly.{Exactly};
-ghost use Rattle.reader.specs.Spelling.{word as word-of, numbers as numbers-of, tables as tables-of, written, Padded, PaddedView, Plain};
+ghost use Rattle.reader.specs.Spelling.{word as word-of, numbers as numbers-of, written, Padded, PaddedView, Plain};
 
 // The tables of a view, if they are not too many.
 pub(crate) fn named(list: &[u16]) -> Option<Named>
-    ensures { λ r. ⌜ Exactly r (λ d. (tables-of d ≡ now (list .entry)) × Padded d) ⌝ }
+    ensures { λ r. ⌜ Exactly r (λ d. (tables-in d ≡ now (list .entry)) × Padded d) ⌝ }
 {
     if list.len() > 14 {
         return None;

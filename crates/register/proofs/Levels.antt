@@ -1,10 +1,10 @@
 -- The levels that are written down are the levels of the rules, and the tests of names are the rules' conditions.
 -- Assumes nothing.
 use mathlib.Core.Path.{_≡_, refl, sym, ap, subst, _∙_}
-use mathlib.Core.Bool.{Bool, true, false, _&&_}
-use mathlib.Core.Logic.{inl, inr}
+use mathlib.Core.Bool.{true, _&&_}
+use mathlib.Core.Logic.{inr}
 use mathlib.Core.List.{List, [], _∷_}
-use Prim.Native.Nat.{ℕ, zero, suc, _+_, _-_, _≤_, _<_, max}
+use Prim.Native.Nat.{ℕ, zero, suc, _+_, _-_, _≤_, _<_}
 use native.Mathlib.Omega.{arith}
 use lib.Dec.{ltb}
 use lib.ListN.{length, getD, drop, length-drop}
@@ -15,21 +15,22 @@ use Rattle.std.specs.Orderings.{Decides}
 use Rattle.std.specs.shelf.Lists.{All}
 use Rattle.std.proofs.shelf.Elements.{all-weaker}
 use Rattle.std.proofs.shelf.Lists.{drop-more}
-use Rattle.std.proofs.shelf.Tests.{false≢true, and-parts, and-from, ltb-true, lt-ltb}
+use Rattle.std.proofs.shelf.Tests.{and-parts, and-from, ltb-true, lt-ltb}
 use Rattle.rights.specs.declared.records.Subject.{Subject}
 use Rattle.rights.specs.declared.records.TableRecord.{TableRecord}
 use Rattle.rights.specs.Lists.{Rising}
 use Rattle.rights.specs.Refusals.{NoMark}
-use Rattle.rights.specs.Tables.{Table, Tables, Stands, Level, LevelOver}
+use Rattle.rights.specs.Tables.{Table, Stands, Level, LevelOver}
+use Rattle.rights.proofs.Checks.{none-some}
 use Rattle.register.specs.Rows.{subjects-of, is-person, tables-of, table-of, names-of, level-at, level-over, stand, rise}
-use Rattle.register.proofs.Sound.{Sound, none-some, some-from}
+use Rattle.register.proofs.Sound.{Sound, some-from}
 
 -- where the rules have a table, a record stands
 pub record-of : (ts : List (Option TableRecord)) (t : ℕ) (r : Table) → tables-of ts t ≡ Some r → (x : TableRecord) × (getD ts t None ≡ Some x) × (r ≡ table-of x)
 record-of ts t r e = go (getD ts t None) refl
   where
     go : (o : Option TableRecord) → getD ts t None ≡ o → (x : TableRecord) × (getD ts t None ≡ Some x) × (r ≡ table-of x)
-    go None was = absurd (none-some (ap (mapped table-of) (sym was) ∙ e))
+    go None was = absurd (none-some _ (ap (mapped table-of) (sym was) ∙ e))
     go (Some x) was = let same : Some (table-of x) ≡ Some r = ap (mapped table-of) (sym was) ∙ e in (x, was, cc)
 
 stands-row : (ts : List (Option TableRecord)) (d : ℕ) → Stands (tables-of ts) d → isSome (getD ts d None) ≡ true
@@ -124,7 +125,7 @@ pub creator-from : (ss : List (Option Subject)) (i : ℕ) → (NoMark (subjects-
 creator-from ss i may = go (getD ss i None) refl
   where
     go : (o : Option Subject) → getD ss i None ≡ o → is-person o ≡ true
-    go None e = absurd (may (inr (λ is. none-some (sym e ∙ is))))
+    go None e = absurd (may (inr (λ is. none-some _ (sym e ∙ is))))
     go (Some (Subject.Person mark)) e = refl
     go (Some Subject.Group) e = absurd (may (inr (λ is. group-person (sym e ∙ is))))
       where

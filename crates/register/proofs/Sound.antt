@@ -1,13 +1,13 @@
 -- The catalogue's invariant as one record, and how it lasts when nothing stands, or a subject or a table is added.
 -- Assumes nothing.
 use mathlib.Core.Path.{_≡_, refl, sym, ap, ap₂, subst, _∙_, fun-ext}
-use mathlib.Core.Bool.{Bool, true, false, cond, _&&_}
+use mathlib.Core.Bool.{Bool, true, false, cond}
 use mathlib.Core.Logic.{_⊎_, inl, inr, ⊎-elim}
 use mathlib.Core.List.{List, [], _∷_}
 use Prim.Native.Nat.{ℕ, zero, suc, _+_, _≤_, _<_, max}
 use native.Mathlib.Omega.{arith}
-use lib.Dec.{eqb, ltb}
-use lib.ListN.{length, getD, set, take, replicate, length-set}
+use lib.Dec.{eqb}
+use lib.ListN.{length, getD, set, replicate, length-set}
 use lib.Seq.{getD-set-same, getD-set-other}
 use Rattle.std.specs.declared.option.Option.{Option}
 use Rattle.std.specs.declared.option.Option.the-variants.{Some, None}
@@ -17,6 +17,7 @@ use Rattle.rights.specs.declared.records.TableRecord.{TableRecord}
 use Rattle.std.proofs.shelf.Tests.{false≢true, cases-eq, eqb-true, eqb-false, and-parts, and-from}
 use Rattle.rights.specs.Subjects.{enrolled}
 use Rattle.rights.specs.Tables.{made}
+use Rattle.rights.proofs.Checks.{none-some}
 use Rattle.register.specs.Rows.{NoOffice, Owned, Few, Standing, RisingNames, Levelled, Low, subjects-of, tables-of, table-of, names-of, is-person, level-at, level-over, stand, rise}
 
 pub record Sound (ss : List (Option Subject)) (ts : List (Option TableRecord)) : Type 0 where
@@ -29,9 +30,6 @@ pub record Sound (ss : List (Option Subject)) (ts : List (Option TableRecord)) :
   pub rising : RisingNames ts
   pub levelled : Levelled ts
   pub low : Low ts
-
-pub none-some : {X : Type 0} {x : X} → None ≡ Some x → ⊥
-none-some e = let z : _≡_ {A = ℕ} 0 1 = cc in omega arith
 
 pub some-from : {X : Type 0} (o : Option X) → isSome o ≡ true → (x : X) × (o ≡ Some x)
 some-from None e = absurd (false≢true e)
@@ -54,7 +52,7 @@ pub parts : {ss : List (Option Subject)} {ts : List (Option TableRecord)} → So
 parts s = (s .wide, (s .long, (s .office, (s .owned, (s .few, (s .standing, (s .rising, (s .levelled, (s .low, tt)))))))))
 
 no-row : (m t : ℕ) (r : TableRecord) → getD (replicate m None) t None ≡ Some r → ⊥
-no-row m t r e = none-some (sym (getD-fill None m t) ∙ e)
+no-row m t r e = none-some _ (sym (getD-fill None m t) ∙ e)
 
 pub sound-none : Sound (replicate 256 None) (replicate 128 None)
 sound-none = record {

@@ -1,7 +1,7 @@
 -- Laws of chains. They grow with what stands; the entries with a chain are the least set that holds every
 -- standing entry supported by members of it; marking one supported entry after the other finds them all.
-use mathlib.Core.Path.{_≡_, refl, sym, ap, subst, _∙_}
-use mathlib.Core.Bool.{Bool, true, false, cond}
+use mathlib.Core.Path.{_≡_, refl, sym, subst}
+use mathlib.Core.Bool.{Bool, true, false}
 use mathlib.Core.Logic.{_⊎_, inl, inr, ⊎-elim}
 use mathlib.Core.List.{List, [], _∷_, _++_}
 use Prim.Native.Nat.{ℕ, zero, suc, _≤_}
@@ -17,10 +17,10 @@ use Rattle.rights.specs.declared.entries.Entry.{Entry}
 use Rattle.rights.specs.Chain.{Chain, HasChain, Others, Revoked}
 use Rattle.rights.specs.Cover.{Supported}
 use Rattle.rights.specs.Entries.{same-entry}
-use Rattle.rights.specs.Lists.{In, Parted}
+use Rattle.rights.specs.Lists.{In, Parted, Inside}
 use Rattle.rights.specs.Tables.{Tables, unmade, Names, Levelled, Extends}
 use Rattle.rights.proofs.Cover.{supported-grows, supported-extends, supported-apart, supported-or-not}
-use Rattle.rights.proofs.Deciding.{Among, some-test, passing, decides-in, decides-from-cases, either-way}
+use Rattle.rights.proofs.Deciding.{some-test, passing, decides-in, decides-from-cases, either-way}
 use Rattle.rights.proofs.Order.{decides-same}
 use Rattle.rights.proofs.Parts.{failing, find, Sought, in-left, in-right, find-sought, failing-in, in-failing, parted-same, parted-by, parted-kept, kept-parted}
 use Rattle.rights.proofs.Within.{Or-not}
@@ -77,12 +77,12 @@ module _ (tables : Tables) where
     has-chain-supported e c = (c .0, chain-members (c .0) (c .1 .2), c .1 .1)
 
     -- one chain for all of a list
-    chain-of-all : (l : List Entry) → ((f : Entry) → In f l → HasChain tables Standing f) → (m : List Entry) × Chain tables Standing m × Among l m
+    chain-of-all : (l : List Entry) → ((f : Entry) → In f l → HasChain tables Standing f) → (m : List Entry) × Chain tables Standing m × Inside l m
     unfolding HasChain
     chain-of-all [] h = ([], tt, λ f i. absurd i)
     chain-of-all (e ∷ l) h = let r = chain-of-all l (λ f i. h f (inr i)) in let c = h e (inl refl) in ((e ∷ c .0) ++ r .0, chain-join (e ∷ c .0) (r .0) (c .1) (r .1), among r c)
       where
-        among : (r : (m : List Entry) × Chain tables Standing m × Among l m) (c : (k : List Entry) × Chain tables Standing (e ∷ k)) → Among (e ∷ l) ((e ∷ c .0) ++ r .0)
+        among : (r : (m : List Entry) × Chain tables Standing m × Inside l m) (c : (k : List Entry) × Chain tables Standing (e ∷ k)) → Inside (e ∷ l) ((e ∷ c .0) ++ r .0)
         among r c f (inl q) = inl q
         among r c f (inr i) = in-right f (e ∷ c .0) (r .0) (r .2 f i)
 
@@ -127,7 +127,7 @@ module _ (tables : Tables) where
           complete = closed-round marked (λ e s u. ⊎-elim (λ i. i) (λ i. absurd (nothing e i u)) (m .every e s));
         }
 
-    marking-more : (marked rest : List Entry) (x : Entry) (l : List Entry) → Marking marked rest → Supported tables marked x → In x rest → Among l rest → ((e : Entry) → In e rest → (e ≡ x) ⊎ In e l) → Marking (x ∷ marked) l
+    marking-more : (marked rest : List Entry) (x : Entry) (l : List Entry) → Marking marked rest → Supported tables marked x → In x rest → Inside l rest → ((e : Entry) → In e rest → (e ≡ x) ⊎ In e l) → Marking (x ∷ marked) l
     marking-more marked rest x l m u i part split =
         record {
           chain = (m .stand x i, u, m .chain);

@@ -15,6 +15,9 @@ module _ {F : Type 0} where
   pub some-none : (f : F) → Some f ≡ None → ⊥
   some-none f e = let z : _≡_ {A = ℕ} 0 1 = cc in omega arith
 
+  pub none-some : (f : F) → None ≡ Some f → ⊥
+  none-some f e = some-none f (sym e)
+
   pub first-none : (r : Option F) → r ≡ None → First [] r
   unfolding First
   first-none r e = e

@@ -17,18 +17,18 @@ use Rattle.rights.specs.declared.vocabulary.Strength.{Strength}
 use Rattle.rights.specs.Access.{Denied}
 use Rattle.rights.specs.Clash.{Clash, Clashing}
 use Rattle.rights.specs.Holding.{Holds, StrongPlus, StrongMinus, MinusOnBases}
-use Rattle.rights.specs.Lists.{In}
+use Rattle.rights.specs.Lists.{In, Inside}
 use Rattle.rights.specs.Pairs.{pair}
 use Rattle.rights.specs.Tables.{Tables, IsBase, AtOrBeneath, Levelled, Extends}
 use Rattle.rights.specs.Within.{Within, Below}
-use Rattle.rights.proofs.Deciding.{Among, Some-in, some-test, decides-some, either-way}
+use Rattle.rights.proofs.Deciding.{Some-in, some-test, decides-some, either-way}
 use Rattle.rights.proofs.Holding.{same-right, decides-same-right, within-test, decides-within, strong-plus-test, decides-strong-plus, strong-plus-grows, strong-minus-grows}
 use Rattle.rights.proofs.Parts.{in-left, in-right}
 use Rattle.rights.proofs.Tables.{Low, beneath-base, beneath-extends, beneath-test, decides-beneath, levels-of}
 use Rattle.rights.proofs.Within.{within-cases}
 
 -- more pairs, tables and entries: no less is denied, and there are no fewer clashes
-module _ (ps qs : List Pair) (pairs-in : Among ps qs) (tables more : Tables) (keeps : Extends tables more) (es fs : List Entry) (entries-in : Among es fs) where
+module _ (ps qs : List Pair) (pairs-in : Inside ps qs) (tables more : Tables) (keeps : Extends tables more) (es fs : List Entry) (entries-in : Inside es fs) where
   pub denied-grows : (u : ℕ) (p : Privilege) (t : ℕ) → Denied ps tables es u p t → Denied qs more fs u p t
   unfolding Denied
   denied-grows u p t (inl m) = inl (strong-minus-grows ps qs pairs-in es fs entries-in u p t m)

@@ -1,7 +1,7 @@
 -- Laws of cover: it grows with the entries, what it comes from at one table, and its test where tables have levels.
 use mathlib.Core.Path.{_≡_, refl, sym, ap, subst, _∙_}
 use mathlib.Core.Bool.{Bool, true, false, cond, _&&_, _||_}
-use mathlib.Core.Logic.{_⊎_, inl, inr, ⊎-elim}
+use mathlib.Core.Logic.{_⊎_, inl, inr}
 use mathlib.Core.List.{List, [], _∷_}
 use Prim.Native.Nat.{ℕ, zero, suc, _≤_}
 use native.Mathlib.Omega.{arith}
@@ -17,10 +17,11 @@ use Rattle.rights.specs.declared.vocabulary.Privilege.{Privilege}
 use Rattle.rights.specs.declared.vocabulary.Rank.{Rank}
 use Rattle.rights.specs.declared.vocabulary.Right.{Right}
 use Rattle.rights.specs.Cover.{Lends, Covers, by-owning, by-entry, by-names, privilege-in, kind-needed, rank-needed, Supported}
-use Rattle.rights.specs.Lists.{In}
+use Rattle.rights.specs.Lists.{In, Inside}
 use Rattle.rights.specs.Numbers.{kind-number, rank-number, privilege-number}
-use Rattle.rights.specs.Tables.{Table, Tables, unmade, IsBase, IsView, Owns, Names, Levelled, Extends}
-use Rattle.rights.proofs.Deciding.{Among, some-test, each-test, decides-some, decides-each, either-way}
+use Rattle.rights.specs.Tables.{Table, Tables, unmade, Names, Levelled, Extends}
+use Rattle.rights.proofs.Checks.{none-some}
+use Rattle.rights.proofs.Deciding.{some-test, each-test, decides-some, decides-each, either-way}
 use Rattle.rights.proofs.Parts.{decides-leb}
 use Rattle.rights.proofs.Tables.{Low, low-named, low-names-none, levels-of, some-same}
 use Rattle.rights.proofs.Within.{Or-not}
@@ -64,12 +65,12 @@ decides-right k r p (Right.Admin q k′ r′) =
         (ap privilege-number ep, (subst (λ x. kind-number k ≤ kind-number x) ek m, subst (λ x. rank-number r ≤ rank-number x) er n))
 
 module _ (tables : Tables) where
-  pub covers-grows : (es fs : List Entry) → Among es fs → {x : ℕ} {k : Kind} {r : Rank} {p : Privilege} {t : ℕ} → Covers tables es x k r p t → Covers tables fs x k r p t
+  pub covers-grows : (es fs : List Entry) → Inside es fs → {x : ℕ} {k : Kind} {r : Rank} {p : Privilege} {t : ℕ} → Covers tables es x k r p t → Covers tables fs x k r p t
   covers-grows es fs more (by-owning b o) = by-owning b o
   covers-grows es fs more (by-entry e i l) = by-entry e (more e i) l
   covers-grows es fs more (by-names v o all) = by-names v o (λ d n. covers-grows es fs more (all d n))
 
-  pub supported-grows : (es fs : List Entry) → Among es fs → (e : Entry) → Supported tables es e → Supported tables fs e
+  pub supported-grows : (es fs : List Entry) → Inside es fs → (e : Entry) → Supported tables es e → Supported tables fs e
   unfolding Supported
   supported-grows es fs more e s = covers-grows es fs more s
 
@@ -116,10 +117,7 @@ module _ (tables : Tables) where
     covers-test (suc n) t = let owned = owned-test (λ d. covers-test n d) (tables t) in some-test (lends-test t) entries || owned
 
     decides-owned : (f : ℕ → Bool) (o : Option Table) → ((w : Table) → o ≡ Some w → (d : ℕ) → In d (w .names) → Decides (f d) (Covers tables entries x k r p d)) → Decides (owned-test f o) ((w : Table) × (o ≡ Some w) × Owned w)
-    decides-owned f None d = ((λ e. absurd (false≢true e)), λ h. absurd (apart (h .0) (h .1)))
-      where
-        apart : (w : Table) → None ≡ Some w → ⊥
-        apart w e = let z : _≡_ {A = ℕ} 0 1 = cc in omega arith
+    decides-owned f None d = ((λ e. absurd (false≢true e)), λ h. absurd (none-some (h .0) (h .1)))
     decides-owned f (Some w) d =
         decides-like _ (λ h. (w, refl, (h .0, h .1))) (λ h. back (h .0) (h .1) (h .2))
         (decides-and _ _ (decides-eqb _ _) (decides-each (λ c. Covers tables entries x k r p c) f (w .names) (d w refl)))

@@ -21,10 +21,6 @@ decides-from-cases (inl p) = (true, (λ _. p, λ _. refl))
 decides-from-cases (inr n) = (false, (λ e. absurd (true≢false (sym e)), λ p. absurd (n p)))
 
 module _ {X : Type 0} where
-  -- every element of xs is one of ys
-  abbrev pub Among : List X → List X → Type 0
-  Among xs ys = (x : X) → In x xs → In x ys
-
   -- some element has the property
   abbrev pub Some-in : (X → Type 0) → List X → Type 0
   Some-in P xs = (x : X) × In x xs × P x

@@ -15,11 +15,12 @@ use Rattle.rights.specs.Holding.{Holds, StrongPlus, StrongMinus}
 use Rattle.rights.specs.Lists.{In}
 use Rattle.rights.specs.Laws.{SameBelow, Strong-stays, Made-apart, Dropped-apart}
 use Rattle.rights.specs.Tables.{Table, Tables, made, unmade, Names, Beneath, AtOrBeneath, Stands, Level, level, Levelled}
+use Rattle.rights.proofs.Checks.{none-some}
 use Rattle.rights.proofs.Clash.{denied-grows, denied-clash}
 use Rattle.rights.proofs.Grounds.{answers-says, says-answers}
 use Rattle.rights.proofs.Holding.{strong-plus-grows}
 use Rattle.rights.proofs.Reading.{same-back, beneath-back, strong-plus-same, reads-below}
-use Rattle.rights.proofs.Tables.{beneath-names, beneath-named, beneath-base, beneath-lower, none-some}
+use Rattle.rights.proofs.Tables.{beneath-names, beneath-named, beneath-base, beneath-lower}
 
 pub strong-stays : Strong-stays
 strong-stays pairs pairs′ tables tables′ entries entries′ more u p t = (

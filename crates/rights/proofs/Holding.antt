@@ -18,17 +18,17 @@ use Rattle.rights.specs.Access.{WeakAt}
 use Rattle.rights.specs.Bits.{bit}
 use Rattle.rights.specs.Entries.{same-entry}
 use Rattle.rights.specs.Holding.{Gives, Holds, StrongPlus, StrongMinus}
-use Rattle.rights.specs.Lists.{In}
+use Rattle.rights.specs.Lists.{In, Inside}
 use Rattle.rights.specs.Tables.{Table, Tables, Extends}
 use Rattle.rights.specs.Within.{Within}
 use Rattle.rights.proofs.Bits.{bit-injective}
-use Rattle.rights.proofs.Deciding.{Among, some-test, decides-some, decides-in}
+use Rattle.rights.proofs.Deciding.{some-test, decides-some, decides-in}
 use Rattle.rights.proofs.Order.{decides-same}
 use Rattle.rights.proofs.Tables.{base-test, owns-test, decides-base, decides-owns}
 use Rattle.rights.proofs.Within.{within-same, within-none, within-grows, within-more, within-through}
 
 -- more pairs and more entries, more is held
-module _ (ps qs : List Pair) (pairs-in : Among ps qs) (es fs : List Entry) (entries-in : Among es fs) where
+module _ (ps qs : List Pair) (pairs-in : Inside ps qs) (es fs : List Entry) (entries-in : Inside es fs) where
   pub holds-grows : (s : ℕ) (p : Privilege) (sign : Sign) (t : ℕ) (r : Strength) → Holds ps es s p sign t r → Holds qs fs s p sign t r
   unfolding Holds
   holds-grows s p sign t r h = (h .0, entries-in (h .0) (h .1), h .2, within-grows ps qs pairs-in s (h .0 .subject) (h .3))

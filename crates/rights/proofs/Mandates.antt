@@ -1,10 +1,9 @@
 -- The laws of cover, chains and runs, put together.
 use mathlib.Core.Path.{_≡_, subst}
-use mathlib.Core.List.{List, []}
+use mathlib.Core.List.{[]}
 use Rattle.std.specs.declared.option.Option.the-variants.{Some}
 use Rattle.rights.specs.declared.commands.Answer.{Answer}
 use Rattle.rights.specs.declared.commands.State.{State}
-use Rattle.rights.specs.declared.entries.Entry.{Entry}
 use Rattle.rights.specs.History.{empty-history}
 use Rattle.rights.specs.Checks.{First}
 use Rattle.rights.specs.Lists.{In}

@@ -1,17 +1,16 @@
 -- Every command has an outcome: in a sound history the tests of the rules compute the answer, what is struck and
 -- the next history, which is sound again. So every list of commands has a run from the empty history.
-use mathlib.Core.Path.{_≡_, refl, sym, ap, subst, _∙_}
-use mathlib.Core.Bool.{Bool, true, false, cond, true≢false, not}
-use mathlib.Core.Logic.{_⊎_, inl, inr, ⊎-elim}
+use mathlib.Core.Path.{_≡_, refl, ap, subst, _∙_}
+use mathlib.Core.Bool.{Bool, true, false, cond, not}
+use mathlib.Core.Logic.{inl, inr}
 use mathlib.Core.List.{List, [], _∷_, map}
-use Prim.Native.Nat.{ℕ, _≤_, _<_}
+use Prim.Native.Nat.{ℕ, _≤_}
 use native.Mathlib.Omega.{arith}
 use lib.Dec.{eqb}
 use lib.ListN.{length}
 use Rattle.std.specs.declared.option.Option.{Option}
 use Rattle.std.specs.declared.option.Option.the-variants.{Some, None}
-use Rattle.std.specs.Orderings.{Decides}
-use Rattle.std.proofs.shelf.Tests.{cases-lt, eqb-true, eqb-false, eq-eqb, ne-eqb}
+use Rattle.std.proofs.shelf.Tests.{eqb-true, eqb-false, ne-eqb}
 use Rattle.std.proofs.shelf.Ways.{decides-eqb, decides-not}
 use Rattle.rights.specs.declared.commands.Answer.{Answer}
 use Rattle.rights.specs.declared.commands.Command.{Command}
@@ -21,12 +20,11 @@ use Rattle.rights.specs.declared.entries.Pair.{Pair}
 use Rattle.rights.specs.declared.faults.RegisterFault.{RegisterFault}
 use Rattle.rights.specs.declared.faults.SheetFault.{SheetFault}
 use Rattle.rights.specs.declared.records.Subject.{Subject}
-use Rattle.rights.specs.Access.{Answers}
-use Rattle.rights.specs.Chain.{Revoked, HasChain, Others}
+use Rattle.rights.specs.Chain.{Revoked}
 use Rattle.rights.specs.Checks.{Check, First, refuse}
 use Rattle.rights.specs.Entries.{Before, before, same-entry}
 use Rattle.rights.specs.History.{History, empty-history, with-subjects, with-pairs, with-tables, with-entries, Becomes}
-use Rattle.rights.specs.Lists.{In, Rising, Placed, Parted}
+use Rattle.rights.specs.Lists.{In, Rising, Placed}
 use Rattle.rights.specs.Pairs.{pair, Before as PairBefore}
 use Rattle.rights.specs.Read.{privilege-of, mark-of, access-entry, admin-entry, tables-in}
 use Rattle.rights.specs.Refusals.{

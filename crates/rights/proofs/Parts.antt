@@ -11,8 +11,8 @@ use Rattle.std.specs.declared.option.Option.the-variants.{Some, None}
 use Rattle.std.specs.Orderings.{Decides}
 use Rattle.std.specs.shelf.Lists.{All}
 use Rattle.std.proofs.shelf.Tests.{both-ways, false≢true, leb-true, le-leb}
-use Rattle.rights.specs.Lists.{In, Rising, Placed, Parted, none, keep, leave}
-use Rattle.rights.proofs.Deciding.{Among, passing}
+use Rattle.rights.specs.Lists.{In, Rising, Placed, Parted, none, keep, leave, Inside}
+use Rattle.rights.proofs.Deciding.{passing}
 use Rattle.rights.proofs.Within.{Or-not}
 
 pub decides-leb : (a b : ℕ) → Decides (leb a b) (a ≤ b)
@@ -157,7 +157,7 @@ module _ {X : Type 0} (f : X → Bool) where
     pub passes : f x ≡ true
     pub fewer : length xs ≡ suc (length m)
     pub stood : In x xs
-    pub others : Among m xs
+    pub others : Inside m xs
     pub or-else : (y : X) → In y xs → (y ≡ x) ⊎ In y m
 
   abbrev pub Sought : List X → Option (X × List X) → Type 0

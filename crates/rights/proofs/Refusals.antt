@@ -1,8 +1,8 @@
 -- Every condition of every list of refusals has a test that decides it, in a history of which the numbers
 -- are in their ranges and the tables have levels of at most 7.
-use mathlib.Core.Path.{_≡_, refl, sym, ap, subst, _∙_}
+use mathlib.Core.Path.{_≡_, refl, sym, ap, subst}
 use mathlib.Core.Bool.{Bool, true, false, true≢false, not, _&&_, _||_}
-use mathlib.Core.Logic.{_⊎_, inl, inr, ⊎-elim}
+use mathlib.Core.Logic.{inl, inr}
 use mathlib.Core.List.{List, [], _∷_, map}
 use Prim.Native.Nat.{ℕ, zero, suc, _+_, max, _≤_, _<_}
 use native.Mathlib.Omega.{arith}
@@ -52,8 +52,8 @@ use Rattle.rights.specs.Refusals.{
   checks,
   sheet-checks,
 }
-use Rattle.rights.specs.Subjects.{Subjects, Registered, IsPerson, IsGroup, IsCreator}
-use Rattle.rights.specs.Tables.{Table, Tables, Stands, IsView, Owns, Names, Level, level, LevelOver, over-none, over-more}
+use Rattle.rights.specs.Subjects.{Subjects, Registered, IsPerson}
+use Rattle.rights.specs.Tables.{Table, Tables, Stands, Names, Level, level, LevelOver, over-none, over-more}
 use Rattle.rights.proofs.Checks.{Decided, first-of, first-decided}
 use Rattle.rights.proofs.Clash.{candidates, clash-test, decides-clashing}
 use Rattle.rights.proofs.Cover.{supported-test, decides-supported}

@@ -1,12 +1,11 @@
 -- Laws of steps and runs: a command has one answer, one list of struck entries, one next state and one next
 -- history, and it is refused exactly where a check applies.
 use mathlib.Core.Path.{_≡_, refl, sym, ap, subst, _∙_}
-use mathlib.Core.Logic.{_⊎_, inl, inr, ⊎-elim}
-use mathlib.Core.List.{List, [], _∷_}
+use mathlib.Core.Logic.{inl, inr}
+use mathlib.Core.List.{List, []}
 use Prim.Native.Nat.{ℕ}
 use native.Mathlib.Omega.{arith}
 use lib.ListN.{length}
-use Rattle.std.specs.declared.option.Option.{Option}
 use Rattle.std.specs.declared.option.Option.the-variants.{Some, None}
 use Rattle.rights.specs.declared.commands.Answer.{Answer}
 use Rattle.rights.specs.declared.commands.Command.{Command}
@@ -14,16 +13,16 @@ use Rattle.rights.specs.declared.commands.State.{State}
 use Rattle.rights.specs.declared.entries.Entry.{Entry}
 use Rattle.rights.specs.declared.faults.SheetFault.{SheetFault}
 use Rattle.rights.specs.Access.{rules, Answers}
-use Rattle.rights.specs.Checks.{Check, First}
+use Rattle.rights.specs.Checks.{First}
 use Rattle.rights.specs.Entries.{Before}
 use Rattle.rights.specs.History.{History, with-entries, with-pairs, with-tables, Granting, Revoking, Becomes}
 use Rattle.rights.specs.Pairs.{Before as PairBefore}
 use Rattle.rights.specs.Refusals.{Lent, sheet-checks}
-use Rattle.rights.specs.Runs.{next-state, Accepted, Step, refused, accepted, Call, Run, done, more}
+use Rattle.rights.specs.Runs.{Accepted, Step, refused, accepted, Call, Run, done, more}
 use Rattle.rights.specs.Tables.{unmade}
 use Rattle.rights.proofs.Access.{answers-unique}
 use Rattle.rights.proofs.Chain.{revoked-same}
-use Rattle.rights.proofs.Checks.{first-unique}
+use Rattle.rights.proofs.Checks.{some-none, first-unique}
 use Rattle.rights.proofs.Order.{before-irreflexive, before-transitive}
 use Rattle.rights.proofs.Pairs.{pair-one-way}
 use Rattle.rights.proofs.Parts.{placed-same, unplaced-same, parted-same}
@@ -90,13 +89,7 @@ step-same {lent} {state} {h} {c} (refused {f = f} p) (refused {f = f′} q) =
     let r : f ≡ f′ = cc in
     (refl, ap Answer.Refused r, refl, refl)
 step-same (refused {f = f} p) (accepted q _ _) = absurd (some-none f (first-unique _ (Some f) None p q))
-  where
-    some-none : (f : SheetFault) → Some f ≡ None → ⊥
-    some-none f e = let z : _≡_ {A = ℕ} 0 1 = cc in omega arith
 step-same (accepted p _ _) (refused {f = f} q) = absurd (some-none f (first-unique _ (Some f) None q p))
-  where
-    some-none : (f : SheetFault) → Some f ≡ None → ⊥
-    some-none f e = let z : _≡_ {A = ℕ} 0 1 = cc in omega arith
 step-same {lent} {state} {h} {c} (accepted {a = a} {struck = k} {h′ = g} p x b) (accepted {a = a′} {struck = k′} {h′ = g′} q y b′) =
     let s = becomes-same h c k k′ g g′ b b′ in
     (s .0, accepted-same h c k a a′ x (subst (λ l. Accepted h c l a′) (sym (s .0)) y), refl, s .1)
@@ -158,5 +151,5 @@ accepted-first (refused {f = f} p) n = absurd (n f refl)
 accepted-first (accepted p x b) n = (p, b)
 
 pub first-accepted : {lent : Lent} {state : State} {h : History} {c : Command} {k : List Entry} {a : Answer} {s : State} {g : History} → Step lent state h c k a s g → First (sheet-checks lent h state c) None → (f : SheetFault) → a ≡ Answer.Refused f → ⊥
-first-accepted (refused {f = f} p) q g e = let n : Some f ≡ None = first-unique _ (Some f) None p q in let z : _≡_ {A = ℕ} 0 1 = cc in omega arith
+first-accepted (refused {f = f} p) q g e = absurd (some-none f (first-unique _ (Some f) None p q))
 first-accepted {h = h} {c = c} {k = k} (accepted p x b) q g e = accepted-word h c k g (subst (λ a. Accepted h c k a) e x)

@@ -1,5 +1,5 @@
 -- One step of a run from what the register's checks give: out of turn, refused, or carried out.
-use mathlib.Core.Path.{_≡_, refl, ap}
+use mathlib.Core.Path.{ap}
 use mathlib.Core.Logic.{⊎-elim}
 use mathlib.Core.List.{List, [], _∷_, map}
 use Rattle.std.specs.declared.option.Option.{Option}

@@ -14,13 +14,11 @@ use Rattle.std.proofs.shelf.Tests.{eqb-true}
 use Rattle.std.proofs.shelf.Ways.{decides-eqb, decides-or, decides-not, decides-like}
 use Rattle.rights.specs.Lists.{In}
 use Rattle.rights.specs.Tables.{Table, Tables, no-tables, made, unmade, Stands, IsBase, IsView, Owns, Names, Beneath, named, deeper, Level, level, LevelOver, over-none, over-more, Levelled, Extends}
+use Rattle.rights.proofs.Checks.{none-some}
 use Rattle.rights.proofs.Deciding.{some-test, decides-some, decides-in, either-way}
 
 pub some-same : {X : Type 0} (x y : X) → Some x ≡ Some y → x ≡ y
 some-same x y e = cc
-
-pub none-some : {X : Type 0} (x : X) → None ≡ Some x → ⊥
-none-some x e = true≢false (cc)
 
 module _ (tables : Tables) where
   pub beneath-trans : {b t v : ℕ} → Beneath tables b t → Beneath tables t v → Beneath tables b v

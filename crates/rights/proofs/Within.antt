@@ -1,18 +1,14 @@
 -- The laws of within, for any list of pairs: reflexive, a step, transitive, growing with the pairs,
 -- a pair more, decidable, loops, and sets that no pair leads out of.
-use mathlib.Core.Path.{_≡_, refl, sym, ap, subst, _∙_}
+use mathlib.Core.Path.{_≡_, refl, ap, subst}
 use mathlib.Core.Logic.{_⊎_, inl, inr, ⊎-elim}
 use mathlib.Core.List.{List, [], _∷_}
 use Prim.Native.Nat.{ℕ}
 use Rattle.std.proofs.shelf.Tests.{cases-eq}
 use Rattle.rights.specs.declared.entries.Pair.{Pair}
-use Rattle.rights.specs.Lists.{In}
+use Rattle.rights.specs.Lists.{In, Inside}
 use Rattle.rights.specs.Pairs.{pair}
 use Rattle.rights.specs.Within.{Path, here, step, Within, Below, Loopless}
-
--- every pair of ps is one of qs
-abbrev pub Inside : List Pair → List Pair → Type 0
-Inside ps qs = (x : Pair) → In x ps → In x qs
 
 module _ (ps : List Pair) where
   pub within-refl : (s : ℕ) → Within ps s s

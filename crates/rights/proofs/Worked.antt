@@ -5,7 +5,7 @@ use Rattle.rights.specs.declared.commands.Answer.{Answer}
 use Rattle.rights.specs.declared.commands.Command.{Command}
 use Rattle.rights.specs.declared.commands.State.{State}
 use Rattle.rights.specs.declared.entries.Entry.{Entry}
-use Rattle.rights.specs.History.{History, empty-history}
+use Rattle.rights.specs.History.{empty-history}
 use Rattle.rights.specs.Runs.{Run}
 use Rattle.rights.specs.Worked.{calls, Leads, LeadsOnly, worked-commands, worked-struck, worked-answers, Worked, WorkedNumbers}
 use Rattle.rights.proofs.Outcomes.{Outcomes, outcome, outcomes, run-by, empty-sound}

@@ -14,12 +14,8 @@ use Rattle.rights.specs.declared.vocabulary.Strength.{Strength}
 use Rattle.rights.specs.Bits.{bit, rows}
 use Rattle.rights.specs.Entries.{Before}
 use Rattle.rights.specs.Holding.{Holds}
-use Rattle.rights.specs.Lists.{In}
+use Rattle.rights.specs.Lists.{Inside}
 use Rattle.rights.specs.Within.{Within}
-
--- everything in the one list is in the other
-abbrev pub Inside : {X : Type 0} → List X → List X → Type 0
-Inside {X} xs ys = (x : X) → In x xs → In x ys
 
 pub record BasicLaws : Type 0 where
   -- within is reflexive and transitive, grows with the pairs, and can be told

@@ -1,6 +1,5 @@
 -- Short examples that tell the rules of cover and chains from what they could be mistaken for. Each is a run
 -- from the empty history, or a fact of chains, that comes out otherwise under the mistaken rule.
-use mathlib.Core.Path.{_≡_}
 use mathlib.Core.List.{List, [], _∷_, _++_}
 use lib.Dec.{lit≤}
 use lib.ListN.{length, replicate}

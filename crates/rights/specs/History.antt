@@ -2,7 +2,6 @@
 -- Becomes: how each accepted command changes it. What is refused, and every question, changes nothing.
 use mathlib.Core.Path.{_≡_}
 use mathlib.Core.List.{List, []}
-use Prim.Native.Nat.{ℕ}
 use Rattle.rights.specs.declared.commands.Command.{Command}
 use Rattle.rights.specs.declared.entries.Entry.{Entry}
 use Rattle.rights.specs.declared.entries.Pair.{Pair}
@@ -13,7 +12,7 @@ use Rattle.rights.specs.Lists.{Placed, Parted}
 use Rattle.rights.specs.Pairs.{pair, Before as PairBefore}
 use Rattle.rights.specs.Read.{mark-of, access-entry, admin-entry, tables-in}
 use Rattle.rights.specs.Subjects.{Subjects, no-subjects, enrolled}
-use Rattle.rights.specs.Tables.{Table, Tables, no-tables, made, unmade}
+use Rattle.rights.specs.Tables.{Tables, no-tables, made, unmade}
 
 pub record History : Type 0 where
   pub subjects : Subjects

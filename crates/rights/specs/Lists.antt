@@ -1,5 +1,6 @@
 -- Membership in a list, lists that rise in a strict order, and a list with one element more or parted in two.
--- In: an element stands in a list. Rising: each element comes before all that follow it.
+-- In: an element stands in a list. Inside: all of one list stands in another.
+-- Rising: each element comes before all that follow it.
 -- Placed: a rising list with one element more. Parted: what a property keeps of a list, and what it leaves out.
 use mathlib.Core.Path.{_≡_}
 use mathlib.Core.Logic.{_⊎_}
@@ -10,6 +11,10 @@ use Rattle.std.specs.shelf.Lists.{All}
 abbrev pub In : {X : Type 0} → X → List X → Type 0
 In x [] = ⊥
 In x (y ∷ ys) = (x ≡ y) ⊎ In x ys
+
+-- everything in the one list is in the other
+abbrev pub Inside : {X : Type 0} → List X → List X → Type 0
+Inside {X} xs ys = (x : X) → In x xs → In x ys
 
 -- each element comes before all that follow it
 abbrev pub Rising : {X : Type 0} → (X → X → Type 0) → List X → Type 0

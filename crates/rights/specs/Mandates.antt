@@ -17,7 +17,7 @@ use Rattle.rights.specs.Chain.{HasChain, Revoked}
 use Rattle.rights.specs.Checks.{First}
 use Rattle.rights.specs.Cover.{Covers, Supported}
 use Rattle.rights.specs.History.{History, empty-history}
-use Rattle.rights.specs.Lists.{In, Parted}
+use Rattle.rights.specs.Lists.{In, Inside, Parted}
 use Rattle.rights.specs.Refusals.{Lent, sheet-checks}
 use Rattle.rights.specs.Runs.{Step, Call, Run}
 use Rattle.rights.specs.Tables.{Tables, unmade, Names, Levelled, Extends}
@@ -26,13 +26,9 @@ use Rattle.rights.specs.Tables.{Tables, unmade, Names, Levelled, Extends}
 abbrev pub Upheld : Tables → List Entry → Entry → Type 0
 Upheld tables entries e = HasChain tables (λ f. In f entries) e
 
--- every entry of the one list is in the other
-abbrev pub Within-list : List Entry → List Entry → Type 0
-Within-list es fs = (e : Entry) → In e es → In e fs
-
 -- the more entries, the more is covered
 abbrev pub Cover-grows : Type 0
-Cover-grows = (tables : Tables) (es fs : List Entry) → Within-list es fs → (x : ℕ) (k : Kind) (r : Rank) (p : Privilege) (t : ℕ) → Covers tables es x k r p t → Covers tables fs x k r p t
+Cover-grows = (tables : Tables) (es fs : List Entry) → Inside es fs → (x : ℕ) (k : Kind) (r : Rank) (p : Privilege) (t : ℕ) → Covers tables es x k r p t → Covers tables fs x k r p t
 
 -- one can tell whether a person has a cover
 abbrev pub Cover-told : Type 0
@@ -40,7 +36,7 @@ Cover-told = (tables : Tables) (es : List Entry) → Levelled tables → (x : �
 
 -- the more entries stand, the more have a chain
 abbrev pub Chain-grows : Type 0
-Chain-grows = (tables : Tables) (es fs : List Entry) → Within-list es fs → (e : Entry) → Upheld tables es e → Upheld tables fs e
+Chain-grows = (tables : Tables) (es fs : List Entry) → Inside es fs → (e : Entry) → Upheld tables es e → Upheld tables fs e
 
 -- one can tell whether an entry has a chain
 abbrev pub Chain-told : Type 0

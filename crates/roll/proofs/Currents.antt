@@ -1,21 +1,20 @@
 -- The table stays current: at the start, with a pair more, with a pair less.
-use mathlib.Core.Path.{_≡_, refl, sym, ap, subst, _∙_}
+use mathlib.Core.Path.{_≡_, sym, ap, _∙_}
 use mathlib.Core.Bool.{Bool, true, false, Bool-set}
-use mathlib.Core.Logic.{_⊎_, inl, inr, ⊎-elim, ∥∥₁-elim}
+use mathlib.Core.Logic.{inl, inr, ⊎-elim, ∥∥₁-elim}
 use mathlib.Core.List.{List, [], _∷_}
 use Prim.Native.Nat.{ℕ, _<_}
 use native.Mathlib.Omega.{arith}
 use lib.Dec.{eqb}
-use lib.ListN.{getD, set, replicate, length}
-use Rattle.std.specs.Orderings.{Decides}
+use lib.ListN.{getD, set, replicate}
 use Rattle.std.proofs.shelf.Lists.{getD-replicate, length-replicate, getD-set-same, getD-set-other}
 use Rattle.std.proofs.shelf.Tests.{both-ways, cases-bool, cases-eq, eq-eqb, ne-eqb}
 use Rattle.std.proofs.shelf.Ways.{decides-at, decides-like, decides-and, decides-or, decides-eqb}
 use Rattle.rights.specs.declared.entries.Pair.{Pair}
-use Rattle.rights.specs.Lists.{In}
+use Rattle.rights.specs.Lists.{Inside}
 use Rattle.rights.specs.Pairs.{pair}
 use Rattle.rights.specs.Within.{Within}
-use Rattle.rights.proofs.Within.{Inside, within-same, within-none, within-grows, within-more, within-or-not}
+use Rattle.rights.proofs.Within.{within-same, within-none, within-grows, within-more, within-or-not}
 use Rattle.roll.specs.Pairs.{same, added, dropped}
 use Rattle.roll.specs.Tables.{says, Current, Joined, Renewed}
 use Rattle.roll.proofs.Lists.{in-dropped, dropped-in}

@@ -1,20 +1,18 @@
 -- The laws of a rising list with a pair more or less: who stands in it, its length, that it rises,
 -- and where the pair stands; and that a rising list is known by its members.
 use mathlib.Core.Path.{_≡_, refl, sym, ap, subst, _∙_}
-use mathlib.Core.Bool.{Bool, true, false, cond, _&&_, _||_}
+use mathlib.Core.Bool.{Bool, true, false, cond}
 use mathlib.Core.Logic.{_⊎_, inl, inr, ⊎-elim}
-use mathlib.Core.List.{List, [], _∷_, _++_}
-use Prim.Native.Nat.{ℕ, zero, suc, _+_, _<_, _≤_}
+use mathlib.Core.List.{List, [], _∷_}
+use Prim.Native.Nat.{ℕ, zero, suc, _+_, _<_}
 use native.Mathlib.Omega.{arith}
-use lib.Dec.{eqb, ltb}
 use lib.ListN.{length, getD, take, drop}
 use Rattle.std.specs.shelf.Lists.{All, inserted, removed}
 use Rattle.std.proofs.shelf.Tests.{both-ways, cond-true, cond-false}
 use Rattle.std.proofs.shelf.Elements.{all-getD, all-weaker}
 use Rattle.rights.specs.declared.entries.Pair.{Pair}
-use Rattle.rights.specs.Lists.{In}
+use Rattle.rights.specs.Lists.{In, Inside}
 use Rattle.rights.specs.Pairs.{Before, RisingPairs}
-use Rattle.rights.proofs.Within.{Inside}
 use Rattle.roll.specs.Pairs.{before, same, added, dropped}
 use Rattle.roll.proofs.Orders.{same-is, same-so, before-apart, before-is, before-so, before-not, before-other, before-trans, before-self}
 

@@ -1,9 +1,7 @@
 -- What the check before making gives, for the ceiling of the roll that is made.
-use mathlib.Core.Path.{_≡_, refl, sym, _∙_}
-use mathlib.Core.Logic.{_⊎_, inl, inr, ⊎-elim}
-use Prim.Native.Nat.{ℕ, _<_, _≤_}
-use native.Mathlib.Omega.{arith}
-use Rattle.std.specs.declared.option.Option.{Option}
+use mathlib.Core.Path.{refl, sym}
+use mathlib.Core.Logic.{inl, inr, ⊎-elim}
+use Prim.Native.Nat.{ℕ, _≤_}
 use Rattle.std.specs.declared.option.Option.the-variants.{Some, None}
 use Rattle.std.proofs.shelf.Tests.{cases-lt}
 use Rattle.rights.specs.declared.faults.RollFault.{RollFault}

@@ -1,14 +1,13 @@
 -- A place moved up or down by one while the list stays sound: the list is always one without a place.
-use mathlib.Core.Path.{_≡_, refl, sym, ap, subst, _∙_}
-use mathlib.Core.Logic.{_⊎_, inl, inr, ⊎-elim}
+use mathlib.Core.Path.{_≡_, refl, sym, ap, _∙_}
+use mathlib.Core.Logic.{inl, inr, ⊎-elim}
 use mathlib.Core.List.{List, [], _∷_, _++_}
-use Prim.Native.Nat.{ℕ, zero, suc, _+_, _-_, _<_, _≤_}
+use Prim.Native.Nat.{ℕ, zero, suc, _+_, _<_}
 use native.Mathlib.Omega.{arith}
-use native.Mathlib.Numerals.{add-one}
-use lib.ListN.{length, getD, set, take, drop}
-use Rattle.std.specs.shelf.Lists.{All, inserted, removed}
+use lib.ListN.{length, getD, set, take}
+use Rattle.std.specs.shelf.Lists.{removed}
 use Rattle.std.proofs.shelf.Edits.{length-removed, getD-removed-below, getD-removed-above}
-use Rattle.std.proofs.shelf.Lists.{length-set, getD-set-same, getD-set-other, getD-default, same-lists, take-more, take-more-set, take-all, drop-all, append-nil}
+use Rattle.std.proofs.shelf.Lists.{length-set, getD-set-same, getD-set-other, getD-default, same-lists, drop-all, append-nil}
 use Rattle.std.proofs.shelf.Tests.{cases-lt, cases-eq}
 use Rattle.rights.specs.declared.entries.Pair.{Pair}
 use Rattle.rights.specs.Lists.{In}

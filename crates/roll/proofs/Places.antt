@@ -1,7 +1,7 @@
 -- Halving a rising list until a pair's place is found.
 use mathlib.Core.Path.{_≡_, refl, sym, ap, subst, _∙_}
 use mathlib.Core.Bool.{Bool, true, false}
-use mathlib.Core.Logic.{_⊎_, inl, inr, ⊎-elim}
+use mathlib.Core.Logic.{inl, inr, ⊎-elim}
 use mathlib.Core.List.{List, [], _∷_}
 use Prim.Native.Nat.{ℕ, zero, suc, _+_, _<_, _≤_}
 use native.Mathlib.Omega.{arith}
@@ -13,7 +13,7 @@ use Rattle.std.specs.Orderings.{Decides}
 use Rattle.std.specs.shelf.Lists.{Every}
 use Rattle.std.proofs.shelf.Elements.{all-getD}
 use Rattle.std.proofs.shelf.Lists.{getD-default}
-use Rattle.std.proofs.shelf.Tests.{cases-bool, cases-lt, cases-eq, both-ways}
+use Rattle.std.proofs.shelf.Tests.{cases-bool, cases-lt, both-ways}
 use Rattle.rights.specs.declared.entries.Pair.{Pair}
 use Rattle.rights.specs.Lists.{In}
 use Rattle.rights.specs.Pairs.{Before, RisingPairs}

@@ -6,7 +6,7 @@ use Rattle.std.specs.declared.option.Option.{Option}
 use Rattle.std.specs.declared.option.Option.the-variants.{Some, None}
 use Rattle.rights.specs.declared.entries.Pair.{Pair}
 use Rattle.rights.specs.declared.faults.RollFault.{RollFault}
-use Rattle.rights.specs.Checks.{Check, First, refuse}
+use Rattle.rights.specs.Checks.{First, refuse}
 use Rattle.rights.specs.Pairs.{pair}
 use Rattle.rights.specs.Within.{Within}
 use Rattle.roll.specs.Refusals.{fresh-checks, loop-checks, full-checks, put-checks}

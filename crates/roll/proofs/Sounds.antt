@@ -1,14 +1,13 @@
 -- A sound list of pairs with a pair more or less: it stays sound, and who is then within whom.
-use mathlib.Core.Path.{_≡_, refl, sym, ap, subst, _∙_}
-use mathlib.Core.Logic.{_⊎_, inl, inr, ⊎-elim}
+use mathlib.Core.Path.{sym, subst}
+use mathlib.Core.Logic.{⊎-elim}
 use mathlib.Core.List.{List, [], _∷_}
 use Prim.Native.Nat.{ℕ}
-use Rattle.std.specs.shelf.Lists.{All}
 use Rattle.rights.specs.declared.entries.Pair.{Pair}
 use Rattle.rights.specs.Lists.{In}
-use Rattle.rights.specs.Pairs.{pair, Before, Proper, RisingPairs}
-use Rattle.rights.specs.Within.{Within, Loopless}
-use Rattle.rights.proofs.Within.{Inside, Through, within-grows, within-more, within-through, loopless-none, loopless-fewer, loopless-more}
+use Rattle.rights.specs.Pairs.{pair, Proper}
+use Rattle.rights.specs.Within.{Within}
+use Rattle.rights.proofs.Within.{Through, within-grows, within-more, within-through, loopless-none, loopless-fewer, loopless-more}
 use Rattle.roll.specs.Pairs.{added, dropped}
 use Rattle.roll.specs.Sound.{Sound}
 use Rattle.roll.proofs.Lists.{all-in, all-from-in, in-added, added-in, in-dropped, rising-added, rising-dropped}

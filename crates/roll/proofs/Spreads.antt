@@ -1,20 +1,19 @@
 -- The walk over pairs: marking the groups of one member, and of all that are found.
 use mathlib.Core.Path.{_≡_, refl, sym, ap, subst, _∙_}
-use mathlib.Core.Bool.{Bool, true, false, cond, Bool-set}
+use mathlib.Core.Bool.{Bool, true, Bool-set}
 use mathlib.Core.Logic.{_⊎_, inl, inr, ⊎-elim, ∥∥₁-elim}
-use mathlib.Core.List.{List, [], _∷_}
-use Prim.Native.Nat.{ℕ, zero, suc, _+_, _<_, _≤_}
+use mathlib.Core.List.{List}
+use Prim.Native.Nat.{ℕ, _+_, _<_, _≤_}
 use native.Mathlib.Omega.{arith}
 use lib.ListN.{length, getD, set, take}
 use Rattle.std.proofs.shelf.Lists.{getD-default, getD-take, take-take}
-use Rattle.std.proofs.shelf.Tests.{cases-eq, cases-lt}
+use Rattle.std.proofs.shelf.Tests.{cases-lt}
 use Rattle.std.proofs.shelf.Ways.{tells}
 use Rattle.rights.specs.declared.entries.Pair.{Pair}
 use Rattle.rights.specs.Lists.{In}
 use Rattle.rights.specs.Pairs.{pair, RisingPairs}
 use Rattle.rights.specs.Within.{Within}
 use Rattle.rights.proofs.Within.{within-refl, within-one, within-trans, within-keeps}
-use Rattle.roll.specs.Pairs.{before}
 use Rattle.roll.specs.Places.{Place}
 use Rattle.roll.specs.Walks.{Marked, Listed, Spread, Reaches}
 use Rattle.roll.proofs.Orders.{same-pair}

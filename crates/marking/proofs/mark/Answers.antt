@@ -1,6 +1,6 @@
 use native.Mathlib.Omega.{arith}
-use mathlib.Core.Path.{sym, _∙_}
-use Rattle.std.proofs.shelf.Tests.{leb-true, leb-false}
+use mathlib.Core.Path.{sym}
+use Rattle.std.proofs.shelf.Tests.{leb-true}
 use Rattle.marking.proofs.Sofar.{one-more, no-more}
 use Rattle.marking.proofs.mark.Needs as need
 

@@ -2,7 +2,6 @@ use mathlib.Core.Path.{_≡_, sym, ap, subst, _∙_}
 use mathlib.Core.List.{[], _∷_}
 use Prim.Native.Nat.{_+_, _%_}
 use native.Mathlib.Omega.{arith}
-use lib.ListN.{length}
 use Rattle.std.proofs.shelf.Decimals.{decimal-digit, decimal-step, decimal-some}
 use Rattle.reader.specs.Answers.{Put}
 use Rattle.reader.proofs.Figures.{length-decimal-step}

@@ -1,11 +1,9 @@
-use mathlib.Core.Path.{_≡_}
 use mathlib.Core.List.{[], _∷_, _++_}
 use native.Mathlib.Omega.{arith}
 use lib.Chars.{codes}
-use lib.ListN.{length}
 use Rattle.std.specs.Written.{decimal}
 use Rattle.std.proofs.shelf.Lists.{length-append}
-use Rattle.reader.specs.Answers.{answer-text, answer-line, Put}
+use Rattle.reader.specs.Answers.{answer-text, answer-line}
 use Rattle.reader.proofs.Placed.{put-more, put-length, put-front}
 use Rattle.reader.proofs.Sizes.{count-short}
 use Rattle.reader.proofs.answers.put_line.Needs as need

@@ -1,9 +1,7 @@
-use mathlib.Core.Path.{_≡_, refl, sym, _∙_}
 use native.Mathlib.Omega.{arith}
 use borrow.Author.Tests.{ltb-true, ltb-false}
 use Rattle.std.proofs.shelf.Lists.{take-rest}
 use Rattle.reader.proofs.Made.{made, view-made, view-none}
-use Rattle.rights.specs.declared.commands.Command.{Command}
 use Rattle.reader.proofs.commands.command_of.Needs as need
 
 pub returns-in-User-len2 : need.returns-in-User-len2

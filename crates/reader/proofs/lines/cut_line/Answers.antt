@@ -1,5 +1,5 @@
 use native.Mathlib.Omega.{arith}
-use Rattle.reader.proofs.Pieces.{Run, cut-line}
+use Rattle.reader.proofs.Pieces.{cut-line}
 use Rattle.reader.proofs.lines.cut_line.Needs as need
 
 pub returns-then-end-bytes : need.returns-then-end-bytes

@@ -1,5 +1,5 @@
 use native.Mathlib.Omega.{arith}
-use Rattle.reader.proofs.Pieces.{Run, cut-part}
+use Rattle.reader.proofs.Pieces.{cut-part}
 use Rattle.reader.proofs.words.cut_part.Needs as need
 
 pub returns-then-end-line : need.returns-then-end-line

@@ -1,9 +1,8 @@
-use mathlib.Core.Path.{refl, sym, ap, subst, _∙_}
+use mathlib.Core.Path.{refl, sym, subst}
 use mathlib.Core.List.{[]}
 use Rattle.rights.specs.declared.commands.Answer.{Answer}
 use Rattle.rights.specs.declared.commands.Command.{Command}
 use Rattle.rights.specs.declared.commands.State.{State}
-use Rattle.rights.specs.declared.faults.SheetFault.{SheetFault}
 use Rattle.rights.specs.Refusals.{Lent}
 use Rattle.rights.specs.Runs.{Step}
 use Rattle.sitting.specs.Today.{history-of, answer-of, Answered, Tallied}

@@ -6,7 +6,7 @@ use Rattle.std.specs.declared.option.Option.the-variants.{None}
 use Rattle.std.proofs.shelf.Lists.{getD-past}
 use Rattle.std.proofs.shelf.Tests.{cases-lt}
 use Rattle.std.proofs.shelf.Ways.{not-from-decides}
-use Rattle.register.proofs.Sound.{none-some}
+use Rattle.rights.proofs.Checks.{none-some}
 use Rattle.register.proofs.catalogue.Catalogue.first_person.Needs as need
 
 pub loop-n-again : need.loop-n-again
@@ -17,5 +17,5 @@ returns c =
     let s = c .args .self .now in
     λ n person. ⊎-elim
     (λ below. c .loop-n .inv n (omega arith) person)
-    (λ past. none-some (sym (getD-past (s .subjects) n None (omega (arith, s .wide))) ∙ person .1))
+    (λ past. none-some _ (sym (getD-past (s .subjects) n None (omega (arith, s .wide))) ∙ person .1))
     (cases-lt n 256)

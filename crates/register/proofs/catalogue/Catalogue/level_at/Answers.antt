@@ -1,4 +1,4 @@
-use mathlib.Core.Path.{sym, ap, _∙_}
+use mathlib.Core.Path.{sym, ap}
 use Rattle.register.specs.Rows.{level-at}
 use Rattle.register.proofs.catalogue.Catalogue.level_at.Needs as need
 

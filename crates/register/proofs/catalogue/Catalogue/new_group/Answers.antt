@@ -2,8 +2,8 @@ use mathlib.Core.Path.{refl, sym, _∙_}
 use native.Mathlib.Omega.{arith}
 use Rattle.std.specs.declared.option.Option.the-variants.{None}
 use Rattle.rights.specs.Refusals.{group-checks}
-use Rattle.rights.proofs.Checks.{first-hit, first-miss, first-none}
-use Rattle.register.proofs.Sound.{none-some, some-from, none-from}
+use Rattle.rights.proofs.Checks.{first-hit, first-miss, first-none, none-some}
+use Rattle.register.proofs.Sound.{some-from, none-from}
 use Rattle.register.proofs.catalogue.Catalogue.new_group.Needs as need
 
 pub returns-then-n-eq0 : need.returns-then-n-eq0
@@ -21,7 +21,7 @@ unfolding group-checks
 returns c =
     let free = sym (c .subject .ensures) ∙ none-from (c .subject .result) (sym (c .if-is-some .ensures tt)) in
     record {
-      verdict = first-miss _ _ _ (λ bad. bad (omega arith, omega arith)) (first-miss _ _ _ (λ taken. none-some (sym free ∙ taken .1)) (first-none None refl));
+      verdict = first-miss _ _ _ (λ bad. bad (omega arith, omega arith)) (first-miss _ _ _ (λ taken. none-some _ (sym free ∙ taken .1)) (first-none None refl));
       group = refl;
       vacant = record { some = omega arith; within = omega arith; free = free };
     }

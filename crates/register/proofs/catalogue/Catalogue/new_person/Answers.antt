@@ -6,8 +6,8 @@ use Rattle.std.specs.declared.option.Option.the-variants.{None}
 use Rattle.rights.specs.declared.records.Subject.{Subject}
 use Rattle.rights.specs.Read.{mark-of}
 use Rattle.rights.specs.Refusals.{user-checks}
-use Rattle.rights.proofs.Checks.{first-hit, first-miss, first-none}
-use Rattle.register.proofs.Sound.{none-some, some-from, none-from}
+use Rattle.rights.proofs.Checks.{first-hit, first-miss, first-none, none-some}
+use Rattle.register.proofs.Sound.{some-from, none-from}
 use Rattle.register.proofs.catalogue.Catalogue.new_person.Needs as need
 
 mark : (c : ℕ) → c ≤ 1 → eqb c 1 ≡ mark-of c
@@ -30,7 +30,7 @@ unfolding user-checks
 returns c =
     let free = sym (c .subject .ensures) ∙ none-from (c .subject .result) (sym (c .if-is-some .ensures tt)) in
     record {
-      verdict = first-miss _ _ _ (λ bad. bad ((omega arith, omega arith), omega arith)) (first-miss _ _ _ (λ taken. none-some (sym free ∙ taken .1)) (first-none None refl));
+      verdict = first-miss _ _ _ (λ bad. bad ((omega arith, omega arith), omega arith)) (first-miss _ _ _ (λ taken. none-some _ (sym free ∙ taken .1)) (first-none None refl));
       person = ap Subject.Person (mark (c .args .c) (omega arith));
       vacant = record { some = omega arith; within = omega arith; free = free };
     }

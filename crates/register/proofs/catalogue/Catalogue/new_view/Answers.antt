@@ -1,14 +1,9 @@
-use mathlib.Core.Path.{_≡_, refl, sym, ap, ap₂, subst, _∙_}
-use mathlib.Core.List.{List}
-use Prim.Native.Nat.{ℕ}
+use mathlib.Core.Path.{_≡_, refl, sym, ap, _∙_}
 use native.Mathlib.Omega.{arith}
 use Rattle.std.proofs.shelf.Ways.{not-from-decides}
-use Rattle.rights.specs.declared.records.TableRecord.{TableRecord}
 use Rattle.rights.specs.Refusals.{WellMade, view-checks}
-use Rattle.rights.specs.Tables.{Table}
 use Rattle.std.specs.declared.option.Option.the-variants.{None}
 use Rattle.rights.proofs.Checks.{first-hit, first-miss, first-none}
-use Rattle.register.specs.Catalogue.{Tabled}
 use Rattle.register.specs.Rows.{table-of, stand, rise, level-over}
 use Rattle.register.proofs.Levels.{free-from, creator-from, stand-from, rise-decides, over-only}
 use Rattle.register.proofs.Whole.{sound}

@@ -1,8 +1,6 @@
 use native.Mathlib.Omega.{arith}
 use Rattle.std.proofs.shelf.Results.{err-from-errBy}
 use Rattle.std.proofs.shelf.Ways.{not-from-decides}
-use Rattle.std.specs.Orderings.{Decides}
-use Rattle.rights.specs.Within.{Within}
 use Rattle.roll.specs.Kept.{stored, held-sure}
 use Rattle.roll.specs.Tables.{says}
 use Rattle.roll.proofs.Currents.{current-sure}

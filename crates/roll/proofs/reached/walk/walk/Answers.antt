@@ -1,13 +1,11 @@
-use borrow.Author.Needs.{needs}
-use mathlib.Core.Path.{_≡_, sym, subst}
-use mathlib.Core.Bool.{true, false}
+use mathlib.Core.Path.{sym, subst}
+use mathlib.Core.Bool.{false}
 use mathlib.Core.Logic.{⊎-elim}
 use native.Mathlib.Omega.{arith}
-use Prim.Native.Nat.{_+_, _<_}
 use lib.ListN.{replicate}
 use Rattle.roll.specs.Walks.{Marked}
 use Rattle.roll.proofs.Walks.{marked-self, marked-before, marked-none}
-use Rattle.roll.proofs.Spreads.{Walking, walking-none, walking-more, walking-all}
+use Rattle.roll.proofs.Spreads.{walking-none, walking-more, walking-all}
 use Rattle.roll.proofs.reached.walk.walk.Needs as need
 
 pub loop-next-holds : need.loop-next-holds

@@ -1,4 +1,4 @@
-use mathlib.Core.Path.{_≡_, refl, sym, subst, _∙_}
+use mathlib.Core.Path.{refl, sym, subst, _∙_}
 use native.Mathlib.Omega.{arith}
 use Rattle.rights.specs.Lists.{In}
 use Rattle.rights.specs.Pairs.{pair}

@@ -1,4 +1,4 @@
-use mathlib.Core.Path.{refl, sym, ap, subst}
+use mathlib.Core.Path.{sym, ap, subst}
 use Rattle.rights.specs.declared.commands.Answer.{Answer}
 use Rattle.rights.specs.declared.commands.State.{State}
 use Rattle.rights.specs.declared.faults.SheetFault.{SheetFault}
