@@ -87,15 +87,9 @@ impl Store<'_> {
         if self.count == self.most {
             return Err(12);
         }
-        let mut i = place(&self.list[0..self.count], p);
-        let mut moved = p;
-        while i < self.count {
-            let next = self.list[i];
-            self.list[i] = moved;
-            moved = next;
-            i += 1;
-        }
-        self.list[self.count] = moved;
+        let k = place(&self.list[0..self.count], p);
+        self.list.copy_within(k..self.count, k + 1);
+        self.list[k] = p;
         self.count += 1;
         Ok(())
     }
@@ -103,15 +97,8 @@ impl Store<'_> {
     fn take_out(&mut self, m: u16, g: u16) -> Result<(), u8> {
         let Some(p) = both_subjects(m, g) else { return Err(3) };
         let Some(k) = find(&self.list[0..self.count], p) else { return Err(8) };
-        let mut i = self.count - 1;
-        let mut moved = self.list[i];
-        self.count = i;
-        while i > k {
-            i -= 1;
-            let next = self.list[i];
-            self.list[i] = moved;
-            moved = next;
-        }
+        self.list.copy_within(k + 1..self.count, k);
+        self.count -= 1;
         Ok(())
     }
 }

@@ -22,7 +22,7 @@ use Rattle.book.specs.Cells.{unpacked, held, KeyBefore, climbs, numbered, reco
 use Rattle.book.specs.Packing.{cells}
 use Rattle.book.specs.Stores.{stored, Backed, SameRest, Becomes}
 use Rattle.book.proofs.Heaps.{held-append, held-rises, decides-climbs}
-use Rattle.book.proofs.Shifts.{becomes-again}
+use Rattle.book.proofs.Stores.{becomes-again}
 
 -- ---- running counts
 

@@ -6,7 +6,7 @@ pub mod Members
 pub mod Packs
 pub mod Plains
 pub mod Reading
-pub mod Shifts
+pub mod Stores
 pub mod Table
 pub mod Tests
 pub mod Turns

@@ -1,5 +1,5 @@
 -- What a plain book keeps when its store changes.
-use mathlib.Core.Path.{_≡_, sym, ap, _∙_}
+use mathlib.Core.Path.{_≡_, ap, _∙_}
 use mathlib.Core.Bool.{true}
 use mathlib.Core.List.{List}
 use Prim.Native.Nat.{ℕ, _≤_}
@@ -15,6 +15,7 @@ use Rattle.book.specs.declared.plain.Plain.{Plain}
 use Rattle.book.specs.declared.store.Store.{Store}
 use Rattle.book.specs.Standing.{standing}
 use Rattle.book.specs.Stores.{stored, Becomes}
+use Rattle.book.proofs.Stores.{size-after}
 
 pub length-standing : (b : Plain) → length (standing b) ≡ b .store .used
 length-standing b = length-take-le (b .store .used) (now (b .store .list)) (omega (arith, b .counted, b .room))
@@ -24,5 +25,5 @@ Kept-plain s ceiling = (s .used ≤ ceiling) × ((ceiling ≤ length (now (s .li
 
 pub kept-plain : (b : Plain) (after : Store Entry) (es : List Entry) → Becomes (b .store) es after → RisingEntries es → All Proper es → length es ≤ b .ceiling → Kept-plain after (b .ceiling)
 kept-plain b after es to up all few =
-    let size = sym (length-take-le (after .used) (now (after .list)) (to .inside)) ∙ ap length (to .holds) in
+    let size = size-after (b .store) after es to in
     (omega arith, (omega (arith, to .long, b .room), (b .limited, (ap sound (to .holds) ∙ sound-from es up all, tt))))

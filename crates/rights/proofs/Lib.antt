@@ -21,6 +21,7 @@ pub mod Reading
 pub mod Refusals
 pub mod Runs
 pub mod Scenes
+pub mod Shifts
 pub mod Steps
 pub mod Tables
 pub mod Within

@@ -6,7 +6,6 @@ pub mod Walks
 pub mod Spreads
 pub mod Makings
 pub mod Moves
-pub mod Gaps
 pub mod Keeping
 pub mod Puts
 pub mod Sweeps

@@ -1,29 +1,36 @@
--- A place moved up or down by one while the list stays sound: the list is always one without a place.
-use mathlib.Core.Path.{_≡_, refl, sym, ap, _∙_}
-use mathlib.Core.Logic.{inl, inr, ⊎-elim}
-use mathlib.Core.List.{List, [], _∷_, _++_}
-use Prim.Native.Nat.{ℕ, zero, suc, _+_, _<_}
+-- A pair more at its place, and a list without one place, which stays sound.
+use mathlib.Core.Path.{_≡_, sym, ap, subst, _∙_}
+use mathlib.Core.Bool.{true}
+use mathlib.Core.Logic.{inl, inr}
+use mathlib.Core.List.{List, [], _∷_}
+use Prim.Native.Nat.{ℕ, zero, suc, _+_, _-_, _<_, _≤_}
 use native.Mathlib.Omega.{arith}
-use lib.ListN.{length, getD, set, take}
-use Rattle.std.specs.shelf.Lists.{removed}
-use Rattle.std.proofs.shelf.Edits.{length-removed, getD-removed-below, getD-removed-above}
-use Rattle.std.proofs.shelf.Lists.{length-set, getD-set-same, getD-set-other, getD-default, same-lists, drop-all, append-nil}
-use Rattle.std.proofs.shelf.Tests.{cases-lt, cases-eq}
+use lib.ListN.{length, getD, set, take, drop}
+use lib.Seq.{paste}
+use Rattle.std.specs.shelf.Lists.{All, inserted, removed}
+use Rattle.std.proofs.shelf.Edits.{length-inserted, length-removed}
+use Rattle.std.proofs.shelf.Elements.{all-from-getD}
+use Rattle.std.proofs.shelf.Lists.{getD-take, getD-drop, length-take-le, length-drop}
 use Rattle.rights.specs.declared.entries.Pair.{Pair}
 use Rattle.rights.specs.Lists.{In}
 use Rattle.rights.specs.Pairs.{Before, Proper, RisingPairs}
+use Rattle.rights.proofs.Shifts.{shifted-up, shifted-down, front-joined}
 use Rattle.rights.proofs.Within.{loopless-fewer}
+use Rattle.roll.specs.Pairs.{before, added}
+use Rattle.roll.specs.Places.{Place}
 use Rattle.roll.specs.Sound.{Sound}
-use Rattle.roll.proofs.Lists.{all-in, all-from-in}
+use Rattle.roll.proofs.Lists.{all-in, all-from-in, added-at}
+use Rattle.roll.proofs.Orders.{before-other}
+use Rattle.roll.proofs.Places.{in-at}
 
-pub in-removed : (xs : List Pair) (i : ℕ) (x : Pair) → In x (removed xs i) → In x xs
+in-removed : (xs : List Pair) (i : ℕ) (x : Pair) → In x (removed xs i) → In x xs
 in-removed [] zero x j = j
 in-removed [] (suc i) x j = j
 in-removed (y ∷ ys) zero x j = inr j
 in-removed (y ∷ ys) (suc i) x (inl e) = inl e
 in-removed (y ∷ ys) (suc i) x (inr j) = inr (in-removed ys i x j)
 
-pub rising-removed : (xs : List Pair) (i : ℕ) → RisingPairs xs → RisingPairs (removed xs i)
+rising-removed : (xs : List Pair) (i : ℕ) → RisingPairs xs → RisingPairs (removed xs i)
 rising-removed [] zero up = tt
 rising-removed [] (suc i) up = tt
 rising-removed (y ∷ ys) zero up = up .1
@@ -36,55 +43,31 @@ sound-removed xs i old = record {
   loopless = loopless-fewer xs (removed xs i) (in-removed xs i) (old .loopless);
 }
 
--- a write below n, in the first n
-pub take-set-lt : (n : ℕ) (l : List Pair) (i : ℕ) (v : Pair) → i < n → take n (set l i v) ≡ set (take n l) i v
-take-set-lt zero l i v h = absurd (omega arith)
-take-set-lt (suc n) [] i v h = refl
-take-set-lt (suc n) (x ∷ l) zero v h = refl
-take-set-lt (suc n) (x ∷ l) (suc i) v h = ap (λ t. x ∷ t) (take-set-lt n l i v (omega arith))
+-- a new pair is added at its place
+place-added : (ps : List Pair) (p : Pair) (k : ℕ) → Place ps p k → (In p ps → ⊥) → added p ps ≡ inserted ps k p
+place-added ps p k at new = added-at p ps k below above
+  where
+    below : All (λ q. before q p ≡ true) (take k ps)
+    below = all-from-getD (λ q. before q p ≡ true) (take k ps) p (λ i l.
+        let h : i < k = omega (arith, length-take-le k ps (at .inside)) in
+        subst (λ x. before x p ≡ true) (sym (getD-take k ps i p h)) (at .below i p (omega arith) h))
 
-module _ (xs : List Pair) (i : ℕ) (fits : i + 1 < length xs) where
-  -- without place i, and then place i back in the stead of the next
-  pub set-removed-up : (v : Pair) → v ≡ getD xs i v → set (removed xs i) i v ≡ removed xs (i + 1)
-  set-removed-up v e = same-lists (set (removed xs i) i v) (removed xs (i + 1)) (len ∙ omega (arith, l1, l2)) at
-    where
-      l1 : length (removed xs i) + 1 ≡ length xs
-      l1 = length-removed xs i (omega arith)
+    above : All (λ q. before p q ≡ true) (drop k ps)
+    above = all-from-getD (λ q. before p q ≡ true) (drop k ps) p (λ i l.
+        let h : k + i < length ps = omega (arith, length-drop k ps) in
+        subst (λ x. before p x ≡ true) (sym (getD-drop k ps i p))
+        (before-other p (getD ps (k + i) p) (at .above (k + i) p (omega arith) h) (λ e. new (subst (λ x. In x ps) e (in-at ps (k + i) p h)))))
 
-      l2 : length (removed xs (i + 1)) + 1 ≡ length xs
-      l2 = length-removed xs (i + 1) fits
+-- the first n places of the list, after a copy within it that makes a place or closes one
+module _ (list after : List Pair) (n k : ℕ) where
+  pub moved-in : (p : Pair) → n < length list → Place (take n list) p k → (In p (take n list) → ⊥) → after ≡ set (paste list (k + 1) (drop k list) (n - k)) k p → take (n + 1) after ≡ added p (take n list)
+  moved-in p room at new is =
+      let size = length-take-le n list (omega arith) in
+      let more = length-inserted (take n list) k p (at .inside) in
+      ap (take (n + 1)) (is ∙ shifted-up k n list p (omega (arith, at .inside)) room) ∙ front-joined (n + 1) (inserted (take n list) k p) _ (omega arith) ∙ sym (place-added (take n list) p k at new)
 
-      len : length (set (removed xs i) i v) ≡ length (removed xs i)
-      len = length-set (removed xs i) i v
-
-      at : (k : ℕ) (d : Pair) → k < length (set (removed xs i) i v) → getD (set (removed xs i) i v) k d ≡ getD (removed xs (i + 1)) k d
-      at k d h = ⊎-elim
-          (λ q. ap (λ x. getD (set (removed xs i) i v) x d) q ∙ getD-set-same (removed xs i) i v d (omega (arith, l1)) ∙ e ∙ getD-default xs i v d (omega arith) ∙ sym (ap (λ x. getD (removed xs (i + 1)) x d) q ∙ getD-removed-below xs (i + 1) d i (omega arith) fits))
-          (λ q. getD-set-other (removed xs i) i k v d q ∙ ⊎-elim
-          (λ lt. getD-removed-below xs i d k lt (omega arith) ∙ sym (getD-removed-below xs (i + 1) d k (omega arith) fits))
-          (λ ge. getD-removed-above xs i d k ge (omega arith) ∙ sym (getD-removed-above xs (i + 1) d k (omega (arith, q)) fits))
-          (cases-lt k i))
-          (cases-eq k i)
-
-  -- without place i + 1, and then that in the stead of place i
-  pub set-removed-down : (v : Pair) → v ≡ getD xs (i + 1) v → set (removed xs (i + 1)) i v ≡ removed xs i
-  set-removed-down v e = same-lists (set (removed xs (i + 1)) i v) (removed xs i) (length-set (removed xs (i + 1)) i v ∙ omega (arith, l1, l2)) at
-    where
-      l1 : length (removed xs i) + 1 ≡ length xs
-      l1 = length-removed xs i (omega arith)
-
-      l2 : length (removed xs (i + 1)) + 1 ≡ length xs
-      l2 = length-removed xs (i + 1) fits
-
-      at : (k : ℕ) (d : Pair) → k < length (set (removed xs (i + 1)) i v) → getD (set (removed xs (i + 1)) i v) k d ≡ getD (removed xs i) k d
-      at k d h = ⊎-elim
-          (λ q. ap (λ x. getD (set (removed xs (i + 1)) i v) x d) q ∙ getD-set-same (removed xs (i + 1)) i v d (omega (arith, l2)) ∙ e ∙ getD-default xs (i + 1) v d fits ∙ sym (ap (λ x. getD (removed xs i) x d) q ∙ getD-removed-above xs i d i (omega arith) (omega arith)))
-          (λ q. getD-set-other (removed xs (i + 1)) i k v d q ∙ ⊎-elim
-          (λ lt. getD-removed-below xs (i + 1) d k (omega arith) fits ∙ sym (getD-removed-below xs i d k lt (omega arith)))
-          (λ ge. getD-removed-above xs (i + 1) d k (omega (arith, q)) fits ∙ sym (getD-removed-above xs i d k ge (omega arith)))
-          (cases-lt k i))
-          (cases-eq k i)
-
--- without the last
-pub removed-last : (xs : List Pair) (n : ℕ) → length xs ≡ n + 1 → removed xs n ≡ take n xs
-removed-last xs n e = ap (λ t. take n xs ++ t) (drop-all (suc n) xs (omega arith)) ∙ append-nil (take n xs)
+  pub moved-out : k < n → n ≤ length list → after ≡ paste list k (drop (k + 1) list) (n - (k + 1)) → take (n - 1) after ≡ removed (take n list) k
+  moved-out less room is =
+      let size = length-take-le n list room in
+      let fewer = length-removed (take n list) k (omega arith) in
+      ap (take (n - 1)) (is ∙ shifted-down k n list less) ∙ front-joined (n - 1) (removed (take n list) k) _ (omega arith)

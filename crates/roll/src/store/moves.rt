@@ -22,15 +22,8 @@ impl Store<'_> {
         ensures long { λ _. ⌜ length (now (now (self .exit) .list)) ≡ length (now (now (self .entry) .list)) ⌝ }
     {
         let count = self.count;
-        let mut i = k;
-        let mut moved = p;
-        while i < count {
-            let next = self.list[i];
-            self.list[i] = moved;
-            moved = next;
-            i += 1;
-        }
-        self.list[count] = moved;
+        self.list.copy_within(k..count, k + 1);
+        self.list[k] = p;
         self.count = count + 1;
     }
 
@@ -43,14 +36,8 @@ impl Store<'_> {
         ensures keeps { λ _. ⌜ now (self .exit) .most ≡ now (self .entry) .most ⌝ }
         ensures long { λ _. ⌜ length (now (now (self .exit) .list)) ≡ length (now (now (self .entry) .list)) ⌝ }
     {
-        let mut i = self.count - 1;
-        let mut moved = self.list[i];
-        self.count = i;
-        while i > k {
-            i -= 1;
-            let next = self.list[i];
-            self.list[i] = moved;
-            moved = next;
-        }
+        let count = self.count;
+        self.list.copy_within(k + 1..count, k);
+        self.count = count - 1;
     }
 }

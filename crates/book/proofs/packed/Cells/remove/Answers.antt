@@ -3,7 +3,7 @@ use native.Mathlib.Omega.{arith}
 use Rattle.std.proofs.shelf.Edits.{length-removed}
 use Rattle.book.specs.Packing.{cells}
 use Rattle.book.proofs.Counts.{length-cells, few-held, counts-stand, changed-holds, changed-rest, kept-cells}
-use Rattle.book.proofs.Shifts.{front-first, size-after}
+use Rattle.book.proofs.Stores.{front-first, size-after}
 use Rattle.book.proofs.packed.Cells.remove.Needs as need
 
 pub recount-self-requires : need.recount-self-requires

@@ -3,7 +3,7 @@ use native.Mathlib.Omega.{arith}
 use Rattle.std.proofs.shelf.Lists.{length-set, take-set-le}
 use Rattle.book.specs.Packing.{cells}
 use Rattle.book.proofs.Counts.{length-cells, few-held, counts-stand, changed-holds, changed-rest, kept-cells}
-use Rattle.book.proofs.Shifts.{size-after}
+use Rattle.book.proofs.Stores.{size-after}
 use Rattle.book.proofs.packed.Cells.write.Needs as need
 
 pub recount-self-requires : need.recount-self-requires

@@ -1,6 +1,6 @@
 use mathlib.Core.Path.{refl, ap}
 use lib.ListN.{set}
-use Rattle.book.proofs.Shifts.{insert-becomes}
+use Rattle.book.proofs.Stores.{insert-becomes}
 use Rattle.book.proofs.store.Store.insert.Needs as need
 
 pub returns : need.returns

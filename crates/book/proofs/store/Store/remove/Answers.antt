@@ -1,5 +1,5 @@
 use mathlib.Core.Path.{refl}
-use Rattle.book.proofs.Shifts.{remove-becomes}
+use Rattle.book.proofs.Stores.{remove-becomes}
 use Rattle.book.proofs.store.Store.remove.Needs as need
 
 pub returns : need.returns

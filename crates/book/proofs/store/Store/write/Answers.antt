@@ -1,5 +1,5 @@
 use mathlib.Core.Path.{refl}
-use Rattle.book.proofs.Shifts.{write-becomes}
+use Rattle.book.proofs.Stores.{write-becomes}
 use Rattle.book.proofs.store.Store.write.Needs as need
 
 pub returns : need.returns

@@ -1,49 +1,19 @@
--- What a copy within a list leaves when a place is made for one element more, or closed after one less.
--- shifted-up, shifted-down, written: the whole list after, as the front and the rest.
--- insert-becomes, remove-becomes, write-becomes: the same, told of a store. becomes-again: one change after another.
+-- What a store becomes by an insertion, a removal or a write, and by one change after another.
 use mathlib.Core.Path.{_≡_, refl, sym, ap, subst, _∙_}
 use mathlib.Core.List.{List, [], _∷_, _++_}
 use Prim.Native.Nat.{ℕ, zero, suc, _+_, _-_, _≤_, _<_}
-use native.Mathlib.Numerals.{add-one}
 use native.Mathlib.Omega.{arith}
 use lib.ListN.{length, set, take, drop}
 use lib.Seq.{paste}
 use denote.Ref.{now}
 use Rattle.std.specs.shelf.Lists.{inserted, removed}
 use Rattle.std.proofs.shelf.Edits.{length-inserted, length-removed}
-use Rattle.std.proofs.shelf.Lists.{length-append, length-set, length-take-le, length-drop, take-all, take-take, take-append-le, take-append-drop, drop-all, drop-append-le, drop-take}
+use Rattle.std.proofs.shelf.Lists.{length-append, length-set, length-take-le, length-drop, take-append-drop, drop-all, drop-append-le}
+use Rattle.rights.proofs.Shifts.{shifted-up, shifted-down, front-joined}
 use Rattle.book.specs.declared.store.Store.{Store}
 use Rattle.book.specs.Stores.{stored, Backed, Becomes}
 
 module _ {X : Type 0} where
-  -- the first n places from place k on
-  middle : (k n : ℕ) (xs : List X) → k ≤ n → take (n - k) (drop k xs) ≡ drop k (take n xs)
-  middle k n xs le = let e : k + (n - k) ≡ n = omega arith in sym (drop-take k (n - k) xs) ∙ ap (λ m. drop k (take m xs)) e
-
-  -- the element at place k gives way to x
-  replaced : (k : ℕ) (xs : List X) (x : X) (front rest : List X) → k < length xs → set (take (suc k) xs ++ front ++ rest) k x ≡ take k xs ++ x ∷ front ++ rest
-  replaced k [] x front rest h = absurd (omega arith)
-  replaced zero (y ∷ ys) x front rest h = refl
-  replaced (suc k) (y ∷ ys) x front rest h = ap (λ l. y ∷ l) (replaced k ys x front rest (omega arith))
-
-  -- the places from k on, n in all, moved up by one, and x put at k
-  shifted-up : (k n : ℕ) (xs : List X) (x : X) → k ≤ n → n < length xs → set (paste xs (k + 1) (drop k xs) (n - k)) k x ≡ inserted (take n xs) k x ++ drop (n + 1) xs
-  shifted-up k n xs x le room =
-      let e : k + 1 + (n - k) ≡ n + 1 = omega arith in
-      ap (λ m. set (take m xs ++ take (n - k) (drop k xs) ++ drop (k + 1 + (n - k)) xs) k x) (add-one k)
-      ∙ replaced k xs x (take (n - k) (drop k xs)) (drop (k + 1 + (n - k)) xs) (omega arith)
-      ∙ ap (λ l. take k xs ++ x ∷ l ++ drop (k + 1 + (n - k)) xs) (middle k n xs le)
-      ∙ ap (λ l. l ++ x ∷ drop k (take n xs) ++ drop (k + 1 + (n - k)) xs) (sym (take-take k n xs le))
-      ∙ ap (λ m. inserted (take n xs) k x ++ drop m xs) e
-
-  -- the places past k, of n in all, moved down by one
-  shifted-down : (k n : ℕ) (xs : List X) → k < n → paste xs k (drop (k + 1) xs) (n - (k + 1)) ≡ removed (take n xs) k ++ drop (n - 1) xs
-  shifted-down k n xs less =
-      let e : k + (n - (k + 1)) ≡ n - 1 = omega arith in
-      ap (λ l. take k xs ++ l ++ drop (k + (n - (k + 1))) xs) (middle (k + 1) n xs (omega arith) ∙ ap (λ m. drop m (take n xs)) (add-one k))
-      ∙ ap (λ l. l ++ drop (suc k) (take n xs) ++ drop (k + (n - (k + 1))) xs) (sym (take-take k n xs (omega arith)))
-      ∙ ap (λ m. removed (take n xs) k ++ drop m xs) e
-
   written : (k n : ℕ) (xs : List X) (x : X) → k < n → set xs k x ≡ set (take n xs) k x ++ drop n xs
   written k zero xs x less = absurd (omega arith)
   written k (suc n) [] x less = refl
@@ -56,7 +26,7 @@ module _ {X : Type 0} where
       let long = ap length is ∙ length-append ys (drop (after .used) (now (s .list))) in
       let rest = length-drop (after .used) (now (s .list)) in
       record {
-        holds = ap (take (after .used)) is ∙ take-append-le (after .used) ys _ (omega arith) ∙ take-all (after .used) ys (omega arith);
+        holds = ap (take (after .used)) is ∙ front-joined (after .used) ys _ size;
         inside = omega arith;
         long = omega arith;
         rest = ap (drop (after .used)) is ∙ drop-append-le (after .used) ys _ (omega arith) ∙ ap (λ l. l ++ drop (after .used) (now (s .list))) (drop-all (after .used) ys (omega arith));
@@ -83,7 +53,7 @@ module _ {X : Type 0} (s after : Store X) (k : ℕ) where
 module _ {X : Type 0} where
   -- the places before i, in a list that goes on otherwise from there
   pub front-first : (i : ℕ) (xs ys : List X) → i ≤ length xs → take i (take i xs ++ ys) ≡ take i xs
-  front-first i xs ys h = take-append-le i (take i xs) ys (omega (arith, length-take-le i xs h)) ∙ take-take i i xs (omega arith)
+  front-first i xs ys h = front-joined i (take i xs) ys (length-take-le i xs h)
 
   pub size-after : (s after : Store X) (xs : List X) → Becomes s xs after → after .used ≡ length xs
   size-after s after xs to = sym (length-take-le (after .used) (now (after .list)) (to .inside)) ∙ ap length (to .holds)
