@@ -20,9 +20,9 @@ use Rattle.book.specs.declared.packed.Cells.{Cells}
 use Rattle.book.specs.declared.store.Store.{Store}
 use Rattle.book.specs.Cells.{unpacked, held, KeyBefore, climbs, numbered, recounted, counted-on, Orderly}
 use Rattle.book.specs.Packing.{cells}
-use Rattle.book.specs.Stores.{stored, Backed, SameRest, Becomes}
+use Rattle.book.specs.Stores.{stored, Backed, SameRest, Refilled}
 use Rattle.book.proofs.Heaps.{held-append, held-rises, decides-climbs}
-use Rattle.book.proofs.Stores.{becomes-again}
+use Rattle.book.proofs.Stores.{refilled-again}
 
 -- ---- running counts
 
@@ -189,7 +189,7 @@ pub length-cells : (b : Cells) → length (cells b) ≡ b .store .used
 length-cells b = length-take-le (b .store .used) (now (b .store .list)) (b .inside)
 
 -- the cells change to cs, and are then counted anew
-module _ (b : Cells) (s : Store Cell) (cs : List Cell) (to : Becomes (b .store) cs s) (o : Orderly cs (b .ceiling)) where
+module _ (b : Cells) (s : Store Cell) (cs : List Cell) (to : Refilled (b .store) cs s) (o : Orderly cs (b .ceiling)) where
   pub few-held : length (held (stored s)) ≤ 4096
   few-held = omega (arith, ap (λ l. length (held l)) (to .holds), o .few, b .limited)
 
@@ -197,9 +197,9 @@ module _ (b : Cells) (s : Store Cell) (cs : List Cell) (to : Becomes (b .store) 
   pub counts-stand : (i : ℕ) → take i cs ≡ take i (cells b) → numbered 0 (take i (stored s)) ≡ true
   counts-stand i same = ap (λ l. numbered 0 (take i l)) (to .holds) ∙ ap (numbered 0) same ∙ numbered-take 0 (cells b) i (b .sums)
 
-  module _ (after : Store Cell) (on : Becomes s (counted-on 0 (stored s)) after) where
-    whole : Becomes (b .store) (counted-on 0 cs) after
-    whole = becomes-again (b .store) s after cs _ to (subst (λ l. Becomes s (counted-on 0 l) after) (to .holds) on) (length-counted 0 cs)
+  module _ (after : Store Cell) (on : Refilled s (counted-on 0 (stored s)) after) where
+    whole : Refilled (b .store) (counted-on 0 cs) after
+    whole = refilled-again (b .store) s after cs _ to (subst (λ l. Refilled s (counted-on 0 l) after) (to .holds) on) (length-counted 0 cs)
 
     pub changed-holds : held (stored after) ≡ held cs
     changed-holds = ap held (whole .holds) ∙ held-counted 0 cs

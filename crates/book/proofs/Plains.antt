@@ -14,7 +14,7 @@ use Rattle.rights.proofs.Order.{sound-from}
 use Rattle.book.specs.declared.plain.Plain.{Plain}
 use Rattle.book.specs.declared.store.Store.{Store}
 use Rattle.book.specs.Standing.{standing}
-use Rattle.book.specs.Stores.{stored, Becomes}
+use Rattle.book.specs.Stores.{stored, Refilled}
 use Rattle.book.proofs.Stores.{size-after}
 
 pub length-standing : (b : Plain) → length (standing b) ≡ b .store .used
@@ -23,7 +23,7 @@ length-standing b = length-take-le (b .store .used) (now (b .store .list)) (omeg
 abbrev pub Kept-plain : Store Entry → ℕ → Type 0
 Kept-plain s ceiling = (s .used ≤ ceiling) × ((ceiling ≤ length (now (s .list))) × ((ceiling ≤ 4096) × ((sound (stored s) ≡ true) × Unit {0})))
 
-pub kept-plain : (b : Plain) (after : Store Entry) (es : List Entry) → Becomes (b .store) es after → RisingEntries es → All Proper es → length es ≤ b .ceiling → Kept-plain after (b .ceiling)
+pub kept-plain : (b : Plain) (after : Store Entry) (es : List Entry) → Refilled (b .store) es after → RisingEntries es → All Proper es → length es ≤ b .ceiling → Kept-plain after (b .ceiling)
 kept-plain b after es to up all few =
     let size = size-after (b .store) after es to in
     (omega arith, (omega (arith, to .long, b .room), (b .limited, (ap sound (to .holds) ∙ sound-from es up all, tt))))

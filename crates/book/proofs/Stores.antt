@@ -1,4 +1,4 @@
--- What a store becomes by an insertion, a removal or a write, and by one change after another.
+-- What a store holds after an insertion, a removal or a write, and after one change upon another.
 use mathlib.Core.Path.{_≡_, refl, sym, ap, subst, _∙_}
 use mathlib.Core.List.{List, [], _∷_, _++_}
 use Prim.Native.Nat.{ℕ, zero, suc, _+_, _-_, _≤_, _<_}
@@ -11,7 +11,7 @@ use Rattle.std.proofs.shelf.Edits.{length-inserted, length-removed}
 use Rattle.std.proofs.shelf.Lists.{length-append, length-set, length-take-le, length-drop, take-append-drop, drop-all, drop-append-le}
 use Rattle.rights.proofs.Shifts.{shifted-up, shifted-down, front-joined}
 use Rattle.book.specs.declared.store.Store.{Store}
-use Rattle.book.specs.Stores.{stored, Backed, Becomes}
+use Rattle.book.specs.Stores.{stored, Backed, Refilled}
 
 module _ {X : Type 0} where
   written : (k n : ℕ) (xs : List X) (x : X) → k < n → set xs k x ≡ set (take n xs) k x ++ drop n xs
@@ -21,8 +21,8 @@ module _ {X : Type 0} where
   written (suc k) (suc n) (y ∷ ys) x less = ap (λ l. y ∷ l) (written k n ys x (omega arith))
 
   -- a store whose list is ys and then the rest as it was
-  becomes : (s after : Store X) (ys : List X) → now (after .list) ≡ ys ++ drop (after .used) (now (s .list)) → length ys ≡ after .used → after .used ≤ length (now (s .list)) → Becomes s ys after
-  becomes s after ys is size room =
+  refilled : (s after : Store X) (ys : List X) → now (after .list) ≡ ys ++ drop (after .used) (now (s .list)) → length ys ≡ after .used → after .used ≤ length (now (s .list)) → Refilled s ys after
+  refilled s after ys is size room =
       let long = ap length is ∙ length-append ys (drop (after .used) (now (s .list))) in
       let rest = length-drop (after .used) (now (s .list)) in
       record {
@@ -33,34 +33,34 @@ module _ {X : Type 0} where
       }
 
 module _ {X : Type 0} (s after : Store X) (k : ℕ) where
-  pub insert-becomes : (x : X) → s .used < length (now (s .list)) → k ≤ s .used → after .used ≡ s .used + 1 → now (after .list) ≡ set (paste (now (s .list)) (k + 1) (drop k (now (s .list))) (s .used - k)) k x → Becomes s (inserted (stored s) k x) after
-  insert-becomes x room place more is =
+  pub insert-refills : (x : X) → s .used < length (now (s .list)) → k ≤ s .used → after .used ≡ s .used + 1 → now (after .list) ≡ set (paste (now (s .list)) (k + 1) (drop k (now (s .list))) (s .used - k)) k x → Refilled s (inserted (stored s) k x) after
+  insert-refills x room place more is =
       let size = length-take-le (s .used) (now (s .list)) (omega arith) in
       let longer = length-inserted (stored s) k x (omega arith) in
-      becomes s after _ (is ∙ shifted-up k (s .used) (now (s .list)) x place room ∙ ap (λ n. inserted (stored s) k x ++ drop n (now (s .list))) (sym more)) (omega arith) (omega arith)
+      refilled s after _ (is ∙ shifted-up k (s .used) (now (s .list)) x place room ∙ ap (λ n. inserted (stored s) k x ++ drop n (now (s .list))) (sym more)) (omega arith) (omega arith)
 
-  pub remove-becomes : Backed s → k < s .used → after .used ≡ s .used - 1 → now (after .list) ≡ paste (now (s .list)) k (drop (k + 1) (now (s .list))) (s .used - (k + 1)) → Becomes s (removed (stored s) k) after
-  remove-becomes inside place less is =
+  pub remove-refills : Backed s → k < s .used → after .used ≡ s .used - 1 → now (after .list) ≡ paste (now (s .list)) k (drop (k + 1) (now (s .list))) (s .used - (k + 1)) → Refilled s (removed (stored s) k) after
+  remove-refills inside place less is =
       let size = length-take-le (s .used) (now (s .list)) inside in
       let shorter = length-removed (stored s) k (omega arith) in
-      becomes s after _ (is ∙ shifted-down k (s .used) (now (s .list)) place ∙ ap (λ n. removed (stored s) k ++ drop n (now (s .list))) (sym less)) (omega arith) (omega arith)
+      refilled s after _ (is ∙ shifted-down k (s .used) (now (s .list)) place ∙ ap (λ n. removed (stored s) k ++ drop n (now (s .list))) (sym less)) (omega arith) (omega arith)
 
-  pub write-becomes : (x : X) → Backed s → k < s .used → after .used ≡ s .used → now (after .list) ≡ set (now (s .list)) k x → Becomes s (set (stored s) k x) after
-  write-becomes x inside place same is =
+  pub write-refills : (x : X) → Backed s → k < s .used → after .used ≡ s .used → now (after .list) ≡ set (now (s .list)) k x → Refilled s (set (stored s) k x) after
+  write-refills x inside place same is =
       let size = length-set (stored s) k x ∙ length-take-le (s .used) (now (s .list)) inside in
-      becomes s after _ (is ∙ written k (s .used) (now (s .list)) x place ∙ ap (λ n. set (stored s) k x ++ drop n (now (s .list))) (sym same)) (omega arith) (omega arith)
+      refilled s after _ (is ∙ written k (s .used) (now (s .list)) x place ∙ ap (λ n. set (stored s) k x ++ drop n (now (s .list))) (sym same)) (omega arith) (omega arith)
 
 module _ {X : Type 0} where
   -- the places before i, in a list that goes on otherwise from there
   pub front-first : (i : ℕ) (xs ys : List X) → i ≤ length xs → take i (take i xs ++ ys) ≡ take i xs
   front-first i xs ys h = front-joined i (take i xs) ys (length-take-le i xs h)
 
-  pub size-after : (s after : Store X) (xs : List X) → Becomes s xs after → after .used ≡ length xs
+  pub size-after : (s after : Store X) (xs : List X) → Refilled s xs after → after .used ≡ length xs
   size-after s after xs to = sym (length-take-le (after .used) (now (after .list)) (to .inside)) ∙ ap length (to .holds)
 
   -- two changes, the second of which leaves as many places
-  pub becomes-again : (s between after : Store X) (xs ys : List X) → Becomes s xs between → Becomes between ys after → length ys ≡ length xs → Becomes s ys after
-  becomes-again s between after xs ys to on same =
+  pub refilled-again : (s between after : Store X) (xs ys : List X) → Refilled s xs between → Refilled between ys after → length ys ≡ length xs → Refilled s ys after
+  refilled-again s between after xs ys to on same =
       let used : between .used ≡ after .used = size-after s between xs to ∙ sym same ∙ sym (size-after between after ys on) in
       record {
         holds = on .holds;

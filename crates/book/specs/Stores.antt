@@ -1,5 +1,5 @@
 -- Stores: the front of the caller's list, as many places as are used.
--- stored: what stands there. Backed: the places used lie in the list. Becomes: what a change leaves, there and past it.
+-- stored: what stands there. Backed: the places used lie in the list. Refilled: what a change leaves, there and past it.
 use mathlib.Core.Path.{_≡_}
 use mathlib.Core.List.{List}
 use Prim.Native.Nat.{_≤_}
@@ -18,7 +18,7 @@ abbrev pub SameRest : {X : Type 0} → Store X → Store X → Type 0
 SameRest s after = drop (after .used) (now (after .list)) ≡ drop (after .used) (now (s .list))
 
 -- after the change xs stands, the list is as long as before, and its rest is as it was
-pub record Becomes {X : Type 0} (s : Store X) (xs : List X) (after : Store X) : Type 0 where
+pub record Refilled {X : Type 0} (s : Store X) (xs : List X) (after : Store X) : Type 0 where
   pub holds : stored after ≡ xs
   pub inside : Backed after
   pub long : length (now (after .list)) ≡ length (now (s .list))

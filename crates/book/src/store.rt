@@ -4,7 +4,7 @@ ghost use Prim.Native.Nat.{_≤_, _<_};
 ghost use lib.ListN.{length, set};
 ghost use Rattle.std.specs.Finite.{nth};
 ghost use Rattle.std.specs.shelf.Lists.{inserted, removed};
-ghost use Rattle.book.specs.Stores.{stored, Backed, Becomes};
+ghost use Rattle.book.specs.Stores.{stored, Backed, Refilled};
 
 #[derive(Drop)]
 pub(crate) struct Store<'a, T> {
@@ -38,7 +38,7 @@ impl<T: Copy> Store<'_, T> {
     pub(crate) fn write(&mut self, k: usize, x: T)
         requires inside { ⌜ Backed (now self) ⌝ }
         requires place { ⌜ k < now self .used ⌝ }
-        ensures { λ _. ⌜ Becomes (now (self .entry)) (set (stored (now (self .entry))) k x) (now (self .exit)) ⌝ }
+        ensures { λ _. ⌜ Refilled (now (self .entry)) (set (stored (now (self .entry))) k x) (now (self .exit)) ⌝ }
     {
         self.list[k] = x;
     }
@@ -47,7 +47,7 @@ impl<T: Copy> Store<'_, T> {
     pub(crate) fn insert(&mut self, k: usize, x: T)
         requires room { ⌜ now self .used < length (now (now self .list)) ⌝ }
         requires place { ⌜ k ≤ now self .used ⌝ }
-        ensures { λ _. ⌜ Becomes (now (self .entry)) (inserted (stored (now (self .entry))) k x) (now (self .exit)) ⌝ }
+        ensures { λ _. ⌜ Refilled (now (self .entry)) (inserted (stored (now (self .entry))) k x) (now (self .exit)) ⌝ }
     {
         let used = self.used;
         self.list.copy_within(k..used, k + 1);
@@ -59,7 +59,7 @@ impl<T: Copy> Store<'_, T> {
     pub(crate) fn remove(&mut self, k: usize)
         requires inside { ⌜ Backed (now self) ⌝ }
         requires place { ⌜ k < now self .used ⌝ }
-        ensures { λ _. ⌜ Becomes (now (self .entry)) (removed (stored (now (self .entry))) k) (now (self .exit)) ⌝ }
+        ensures { λ _. ⌜ Refilled (now (self .entry)) (removed (stored (now (self .entry))) k) (now (self .exit)) ⌝ }
     {
         let used = self.used;
         self.list.copy_within(k + 1..used, k);

@@ -7,7 +7,7 @@ ghost use Prim.Native.Nat.{_≤_, _<_};
 ghost use lib.ListN.{length, take};
 ghost use Rattle.std.specs.shelf.Lists.{All};
 ghost use Rattle.book.specs.Cells.{held, unpacked, numbered, counted-on};
-ghost use Rattle.book.specs.Stores.{stored, Backed, Becomes};
+ghost use Rattle.book.specs.Stores.{stored, Backed, Refilled};
 
 impl Store<'_, Cell> {
     // How many entries the first i cells hold.
@@ -31,7 +31,7 @@ impl Store<'_, Cell> {
         requires place { ⌜ i ≤ now self .used ⌝ }
         requires counted { ⌜ numbered 0 (take i (stored (now self))) ≡ true ⌝ }
         requires few { ⌜ length (held (stored (now self))) ≤ 4096 ⌝ }
-        ensures cells { λ _. ⌜ Becomes (now (self .entry)) (counted-on 0 (stored (now (self .entry)))) (now (self .exit)) ⌝ }
+        ensures cells { λ _. ⌜ Refilled (now (self .entry)) (counted-on 0 (stored (now (self .entry)))) (now (self .exit)) ⌝ }
         ensures entries { λ r. ⌜ r ≡ length (held (stored (now (self .entry)))) ⌝ }
     {
         let mut count = self.held_before(i);
