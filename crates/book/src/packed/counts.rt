@@ -3,10 +3,9 @@ use crate::keyed::Cell;
 use crate::store::Store;
 ghost use mathlib.Core.Path.{_≡_};
 ghost use mathlib.Core.Bool.{true};
-ghost use Prim.Native.Nat.{_≤_, _<_};
+ghost use Prim.Native.Nat.{_≤_};
 ghost use lib.ListN.{length, take};
-ghost use Rattle.std.specs.shelf.Lists.{All};
-ghost use Rattle.book.specs.Cells.{held, unpacked, numbered, counted-on};
+ghost use Rattle.book.specs.Cells.{held, numbered, counted-on};
 ghost use Rattle.book.specs.Stores.{stored, Backed, Refilled};
 
 impl Store<'_, Cell> {
