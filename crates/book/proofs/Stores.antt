@@ -8,8 +8,8 @@ use lib.Seq.{paste}
 use denote.Ref.{now}
 use Rattle.std.specs.shelf.Lists.{inserted, removed}
 use Rattle.std.proofs.shelf.Edits.{length-inserted, length-removed}
-use Rattle.std.proofs.shelf.Lists.{length-append, length-set, length-take-le, length-drop, take-append-drop, drop-all, drop-append-le}
-use Rattle.rights.proofs.Shifts.{shifted-up, shifted-down, front-joined}
+use Rattle.std.proofs.shelf.Lists.{length-append, length-set, length-take-le, length-drop, take-append-drop}
+use Rattle.rights.proofs.Shifts.{shifted-up, shifted-down, front-joined, past-joined}
 use Rattle.book.specs.declared.store.Store.{Store}
 use Rattle.book.specs.Stores.{stored, Backed, Refilled}
 
@@ -29,7 +29,7 @@ module _ {X : Type 0} where
         holds = ap (take (after .used)) is ∙ front-joined (after .used) ys _ size;
         inside = omega arith;
         long = omega arith;
-        rest = ap (drop (after .used)) is ∙ drop-append-le (after .used) ys _ (omega arith) ∙ ap (λ l. l ++ drop (after .used) (now (s .list))) (drop-all (after .used) ys (omega arith));
+        rest = ap (drop (after .used)) is ∙ past-joined (after .used) ys _ size;
       }
 
 module _ {X : Type 0} (s after : Store X) (k : ℕ) where

@@ -8,7 +8,7 @@ use native.Mathlib.Omega.{arith}
 use lib.ListN.{length, set, take, drop}
 use lib.Seq.{paste}
 use Rattle.std.specs.shelf.Lists.{inserted, removed}
-use Rattle.std.proofs.shelf.Lists.{take-all, take-take, take-append-le, drop-take}
+use Rattle.std.proofs.shelf.Lists.{take-all, take-take, take-append-le, drop-all, drop-append-le, drop-take}
 
 module _ {X : Type 0} where
   -- the first n places from place k on
@@ -41,3 +41,6 @@ module _ {X : Type 0} where
 
   pub front-joined : (n : ℕ) (ys rest : List X) → length ys ≡ n → take n (ys ++ rest) ≡ ys
   front-joined n ys rest long = take-append-le n ys rest (omega arith) ∙ take-all n ys (omega arith)
+
+  pub past-joined : (n : ℕ) (ys rest : List X) → length ys ≡ n → drop n (ys ++ rest) ≡ rest
+  past-joined n ys rest long = drop-append-le n ys rest (omega arith) ∙ ap (λ l. l ++ rest) (drop-all n ys (omega arith))

@@ -14,7 +14,7 @@ use Rattle.std.proofs.shelf.Lists.{getD-take, getD-drop, length-take-le, length
 use Rattle.rights.specs.declared.entries.Pair.{Pair}
 use Rattle.rights.specs.Lists.{In}
 use Rattle.rights.specs.Pairs.{Before, Proper, RisingPairs}
-use Rattle.rights.proofs.Shifts.{shifted-up, shifted-down, front-joined}
+use Rattle.rights.proofs.Shifts.{shifted-up, shifted-down, front-joined, past-joined}
 use Rattle.rights.proofs.Within.{loopless-fewer}
 use Rattle.roll.specs.Pairs.{before, added}
 use Rattle.roll.specs.Places.{Place}
@@ -65,6 +65,18 @@ module _ (list after : List Pair) (n k : ℕ) where
       let size = length-take-le n list (omega arith) in
       let more = length-inserted (take n list) k p (at .inside) in
       ap (take (n + 1)) (is ∙ shifted-up k n list p (omega (arith, at .inside)) room) ∙ front-joined (n + 1) (inserted (take n list) k p) _ (omega arith) ∙ sym (place-added (take n list) p k at new)
+
+  pub past-in : (p : Pair) → n < length list → Place (take n list) p k → after ≡ set (paste list (k + 1) (drop k list) (n - k)) k p → drop (n + 1) after ≡ drop (n + 1) list
+  past-in p room at is =
+      let size = length-take-le n list (omega arith) in
+      let more = length-inserted (take n list) k p (at .inside) in
+      ap (drop (n + 1)) (is ∙ shifted-up k n list p (omega (arith, at .inside)) room) ∙ past-joined (n + 1) (inserted (take n list) k p) _ (omega arith)
+
+  pub past-out : k < n → n ≤ length list → after ≡ paste list k (drop (k + 1) list) (n - (k + 1)) → drop (n - 1) after ≡ drop (n - 1) list
+  past-out less room is =
+      let size = length-take-le n list room in
+      let fewer = length-removed (take n list) k (omega arith) in
+      ap (drop (n - 1)) (is ∙ shifted-down k n list less) ∙ past-joined (n - 1) (removed (take n list) k) _ (omega arith)
 
   pub moved-out : k < n → n ≤ length list → after ≡ paste list k (drop (k + 1) list) (n - (k + 1)) → take (n - 1) after ≡ removed (take n list) k
   moved-out less room is =

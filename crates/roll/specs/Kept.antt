@@ -1,12 +1,12 @@
--- What a store of pairs holds, and that it holds what every roll keeps.
-use mathlib.Core.Path.{sym, subst}
+-- What a store of pairs holds, what a change leaves of its rest, and that it holds what every roll keeps.
+use mathlib.Core.Path.{_≡_, sym, subst}
 use mathlib.Core.Logic.{∥∥₁-elim}
 use mathlib.Core.List.{List}
 use Prim.Native.Nat.{_≤_}
 use native.Mathlib.Bridge.{le-prop}
 use native.Mathlib.Nat.{le-trans}
 use denote.Ref.{now}
-use lib.ListN.{length, take}
+use lib.ListN.{length, take, drop}
 use lib.Seq.{length-take-le}
 use mathlib.Core.Logic.{∥∥₁-map}
 use Rattle.rights.specs.declared.entries.Pair.{Pair}
@@ -17,6 +17,10 @@ use Rattle.roll.specs.Sure.{sound-sure}
 -- the pairs that stand: the first of the list, as many as are counted
 abbrev pub stored : Store → List Pair
 stored x = take (x .count) (now (x .list))
+
+-- past the pairs that stand after, each place of the list holds what it held before
+abbrev pub SameRest : Store → Store → Type 0
+SameRest x after = drop (after .count) (now (after .list)) ≡ drop (after .count) (now (x .list))
 
 pub record Held (x : Store) : Type 0 where
   pub room : x .most ≤ length (now (x .list))

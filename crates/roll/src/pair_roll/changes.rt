@@ -10,9 +10,9 @@ ghost use Rattle.std.specs.Results.{isOk};
 ghost use Rattle.std.specs.Vec.{made};
 ghost use Rattle.rights.specs.Checks.{First, fault-of};
 ghost use Rattle.rights.specs.Pairs.{pair};
-ghost use Rattle.roll.specs.Kept.{stored};
-ghost use Rattle.roll.specs.Pairs.{added};
-ghost use Rattle.roll.specs.Refusals.{Addable, loop-checks, put-checks};
+ghost use Rattle.roll.specs.Kept.{stored, SameRest};
+ghost use Rattle.roll.specs.Pairs.{added, dropped};
+ghost use Rattle.roll.specs.Refusals.{Addable, loop-checks, put-checks, take-checks};
 
 impl PairRoll<'_> {
     // The pair, if nothing but a full roll keeps it out.
@@ -32,6 +32,7 @@ impl PairRoll<'_> {
         ensures refuses { λ r. ⌜ First (put-checks (stored (now (self .entry) .store)) (now (self .entry) .store .most) m g) (fault-of r) ⌝ }
         ensures adds { λ r. ⌜ stored (now (self .exit) .store) ≡ cond (isOk r) (added (pair m g) (stored (now (self .entry) .store))) (stored (now (self .entry) .store)) ⌝ }
         ensures keeps { λ _. ⌜ now (self .exit) .store .most ≡ now (self .entry) .store .most ⌝ }
+        ensures rest { λ _. ⌜ SameRest (now (self .entry) .store) (now (self .exit) .store) ⌝ }
     {
         let p = self.may_put(m, g)?;
         self.store.add(p)
@@ -39,11 +40,21 @@ impl PairRoll<'_> {
 }
 
 pub impl RollMut for PairRoll<'_> as PairRollChanges {
-    fn put(&mut self, m: u16, g: u16) -> Result<(), RollFault> {
+    fn put(&mut self, m: u16, g: u16) -> Result<(), RollFault>
+        ensures refuses { λ r. ⌜ First (put-checks (stored (now (self .entry) .store)) (now (self .entry) .store .most) m g) (fault-of r) ⌝ }
+        ensures adds { λ r. ⌜ stored (now (self .exit) .store) ≡ cond (isOk r) (added (pair m g) (stored (now (self .entry) .store))) (stored (now (self .entry) .store)) ⌝ }
+        ensures keeps { λ _. ⌜ now (self .exit) .store .most ≡ now (self .entry) .store .most ⌝ }
+        ensures rest { λ _. ⌜ SameRest (now (self .entry) .store) (now (self .exit) .store) ⌝ }
+    {
         self.put_pair(m, g)
     }
 
-    fn take(&mut self, m: u16, g: u16) -> Result<(), RollFault> {
+    fn take(&mut self, m: u16, g: u16) -> Result<(), RollFault>
+        ensures refuses { λ r. ⌜ First (take-checks (stored (now (self .entry) .store)) m g) (fault-of r) ⌝ }
+        ensures drops { λ r. ⌜ stored (now (self .exit) .store) ≡ cond (isOk r) (dropped (pair m g) (stored (now (self .entry) .store))) (stored (now (self .entry) .store)) ⌝ }
+        ensures keeps { λ _. ⌜ now (self .exit) .store .most ≡ now (self .entry) .store .most ⌝ }
+        ensures rest { λ _. ⌜ SameRest (now (self .entry) .store) (now (self .exit) .store) ⌝ }
+    {
         self.store.take_out(m, g)
     }
 }

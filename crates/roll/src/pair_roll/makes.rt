@@ -24,6 +24,7 @@ impl<'a> PairRoll<'a> {
     pub fn new(list: &'a mut [Pair], ceiling: usize) -> PairRoll<'a>
         ensures empty { λ r. ⌜ stored (r .store) ≡ [] ⌝ }
         ensures ceiling { λ r. ⌜ Granted (length (now (list .entry))) ceiling (r .store .most) ⌝ }
+        ensures untouched { λ r. ⌜ now (r .store .list) ≡ now (list .entry) ⌝ }
     {
         let most = granted(list.len(), ceiling);
         let store = Store {

@@ -13,7 +13,7 @@ ghost use Rattle.std.specs.Results.{isOk};
 ghost use Rattle.std.specs.Vec.{made};
 ghost use Rattle.rights.specs.Checks.{First, fault-of};
 ghost use Rattle.rights.specs.Pairs.{pair};
-ghost use Rattle.roll.specs.Kept.{stored};
+ghost use Rattle.roll.specs.Kept.{stored, SameRest};
 ghost use Rattle.roll.specs.Pairs.{added, dropped};
 ghost use Rattle.roll.specs.Refusals.{Addable, loop-checks, put-checks, take-checks};
 
@@ -35,6 +35,7 @@ impl ReachRoll<'_> {
         ensures refuses { λ r. ⌜ First (put-checks (stored (now (self .entry) .store)) (now (self .entry) .store .most) m g) (fault-of r) ⌝ }
         ensures adds { λ r. ⌜ stored (now (self .exit) .store) ≡ cond (isOk r) (added (pair m g) (stored (now (self .entry) .store))) (stored (now (self .entry) .store)) ⌝ }
         ensures keeps { λ _. ⌜ now (self .exit) .store .most ≡ now (self .entry) .store .most ⌝ }
+        ensures rest { λ _. ⌜ SameRest (now (self .entry) .store) (now (self .exit) .store) ⌝ }
     {
         let p = self.may_put(m, g)?;
         self.store.add(p)?;
@@ -47,6 +48,7 @@ impl ReachRoll<'_> {
         ensures refuses { λ r. ⌜ First (take-checks (stored (now (self .entry) .store)) m g) (fault-of r) ⌝ }
         ensures drops { λ r. ⌜ stored (now (self .exit) .store) ≡ cond (isOk r) (dropped (pair m g) (stored (now (self .entry) .store))) (stored (now (self .entry) .store)) ⌝ }
         ensures keeps { λ _. ⌜ now (self .exit) .store .most ≡ now (self .entry) .store .most ⌝ }
+        ensures rest { λ _. ⌜ SameRest (now (self .entry) .store) (now (self .exit) .store) ⌝ }
     {
         let Some(p) = both_subjects(m, g) else {
             return Err(RollFault::BadNumber);
@@ -58,11 +60,21 @@ impl ReachRoll<'_> {
 }
 
 pub impl RollMut for ReachRoll<'_> as ReachRollChanges {
-    fn put(&mut self, m: u16, g: u16) -> Result<(), RollFault> {
+    fn put(&mut self, m: u16, g: u16) -> Result<(), RollFault>
+        ensures refuses { λ r. ⌜ First (put-checks (stored (now (self .entry) .store)) (now (self .entry) .store .most) m g) (fault-of r) ⌝ }
+        ensures adds { λ r. ⌜ stored (now (self .exit) .store) ≡ cond (isOk r) (added (pair m g) (stored (now (self .entry) .store))) (stored (now (self .entry) .store)) ⌝ }
+        ensures keeps { λ _. ⌜ now (self .exit) .store .most ≡ now (self .entry) .store .most ⌝ }
+        ensures rest { λ _. ⌜ SameRest (now (self .entry) .store) (now (self .exit) .store) ⌝ }
+    {
         self.put_pair(m, g)
     }
 
-    fn take(&mut self, m: u16, g: u16) -> Result<(), RollFault> {
+    fn take(&mut self, m: u16, g: u16) -> Result<(), RollFault>
+        ensures refuses { λ r. ⌜ First (take-checks (stored (now (self .entry) .store)) m g) (fault-of r) ⌝ }
+        ensures drops { λ r. ⌜ stored (now (self .exit) .store) ≡ cond (isOk r) (dropped (pair m g) (stored (now (self .entry) .store))) (stored (now (self .entry) .store)) ⌝ }
+        ensures keeps { λ _. ⌜ now (self .exit) .store .most ≡ now (self .entry) .store .most ⌝ }
+        ensures rest { λ _. ⌜ SameRest (now (self .entry) .store) (now (self .exit) .store) ⌝ }
+    {
         self.take_pair(m, g)
     }
 }

@@ -8,7 +8,7 @@ ghost use mathlib.Core.Bool.{cond};
 ghost use Rattle.std.specs.Results.{isOk};
 ghost use Rattle.rights.specs.Checks.{First, fault-of};
 ghost use Rattle.rights.specs.Pairs.{pair};
-ghost use Rattle.roll.specs.Kept.{stored, Held};
+ghost use Rattle.roll.specs.Kept.{stored, SameRest, Held};
 ghost use Rattle.roll.specs.Pairs.{added, dropped};
 ghost use Rattle.roll.specs.Refusals.{Addable, full-checks, take-checks};
 
@@ -21,6 +21,7 @@ impl Store<'_> {
         ensures adds { λ r. ⌜ stored (now (self .exit)) ≡ cond (isOk r) (added p (stored (now (self .entry)))) (stored (now (self .entry))) ⌝ }
         ensures keeps { λ _. ⌜ now (self .exit) .most ≡ now (self .entry) .most ⌝ }
         ensures held { λ _. ⌜ Held (now (self .exit)) ⌝ }
+        ensures rest { λ _. ⌜ SameRest (now (self .entry)) (now (self .exit)) ⌝ }
     {
         if self.count == self.most {
             return Err(RollFault::Full);
@@ -37,6 +38,7 @@ impl Store<'_> {
         ensures drops { λ r. ⌜ stored (now (self .exit)) ≡ cond (isOk r) (dropped (pair m g) (stored (now (self .entry)))) (stored (now (self .entry))) ⌝ }
         ensures keeps { λ _. ⌜ now (self .exit) .most ≡ now (self .entry) .most ⌝ }
         ensures held { λ _. ⌜ Held (now (self .exit)) ⌝ }
+        ensures rest { λ _. ⌜ SameRest (now (self .entry)) (now (self .exit)) ⌝ }
     {
         let Some(p) = both_subjects(m, g) else {
             return Err(RollFault::BadNumber);

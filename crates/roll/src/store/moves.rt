@@ -6,7 +6,7 @@ ghost use Prim.Native.Nat.{_+_, _<_, _≤_};
 ghost use lib.ListN.{length};
 ghost use Rattle.std.specs.shelf.Lists.{removed};
 ghost use Rattle.rights.specs.Lists.{In};
-ghost use Rattle.roll.specs.Kept.{stored};
+ghost use Rattle.roll.specs.Kept.{stored, SameRest};
 ghost use Rattle.roll.specs.Pairs.{added};
 ghost use Rattle.roll.specs.Places.{Place};
 
@@ -20,6 +20,7 @@ impl Store<'_> {
         ensures count { λ _. ⌜ now (self .exit) .count ≡ now (self .entry) .count + 1 ⌝ }
         ensures keeps { λ _. ⌜ now (self .exit) .most ≡ now (self .entry) .most ⌝ }
         ensures long { λ _. ⌜ length (now (now (self .exit) .list)) ≡ length (now (now (self .entry) .list)) ⌝ }
+        ensures rest { λ _. ⌜ SameRest (now (self .entry)) (now (self .exit)) ⌝ }
     {
         let count = self.count;
         self.list.copy_within(k..count, k + 1);
@@ -35,6 +36,7 @@ impl Store<'_> {
         ensures count { λ _. ⌜ now (self .exit) .count + 1 ≡ now (self .entry) .count ⌝ }
         ensures keeps { λ _. ⌜ now (self .exit) .most ≡ now (self .entry) .most ⌝ }
         ensures long { λ _. ⌜ length (now (now (self .exit) .list)) ≡ length (now (now (self .entry) .list)) ⌝ }
+        ensures rest { λ _. ⌜ SameRest (now (self .entry)) (now (self .exit)) ⌝ }
     {
         let count = self.count;
         self.list.copy_within(k + 1..count, k);

@@ -11,7 +11,7 @@ pub returns-in-Break-p : need.returns-in-Break-p
 returns-in-Break-p c =
     let p = err-from-errBy (c .from-residual .result) (c .from-residual .ensures .1) in
     let x = c .args .self .now .store in
-    rw (p .1, p .2) (record { refuses = put-refused (stored x) (c .args .m) (c .args .g) (x .most) _ (c .in-Break-p .ensures tt .refuses); adds = refl; keeps = refl })
+    rw (p .1, p .2) (record { refuses = put-refused (stored x) (c .args .m) (c .args .g) (x .most) _ (c .in-Break-p .ensures tt .refuses); adds = refl; keeps = refl; rest = refl })
 
 pub add-requires : need.add-requires
 add-requires c κs = record { held = held-sure (c .args .self .now .store) (c .args .self .now .held); may = c .in-Continue-p .ensures tt .gives .1 }
@@ -26,4 +26,5 @@ returns c =
       refuses = put-last (stored x) (c .args .m) (c .args .g) (x .most) _ (c .in-Continue-p .ensures tt .refuses) (c .add .ensures .refuses);
       adds = subst (λ p. stored (c .add .last .self) ≡ cond (isOk (c .add .result)) (added p (stored x)) (stored x)) (c .in-Continue-p .ensures tt .gives .0) (c .add .ensures .adds);
       keeps = c .add .ensures .keeps;
+      rest = c .add .ensures .rest;
     }

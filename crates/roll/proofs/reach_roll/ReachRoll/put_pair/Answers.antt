@@ -14,7 +14,7 @@ pub returns-in-Break-p : need.returns-in-Break-p
 returns-in-Break-p c =
     let p = err-from-errBy (c .from-residual .result) (c .from-residual .ensures .1) in
     let x = c .args .self .now .store in
-    rw (p .1, p .2) (record { refuses = put-refused (stored x) (c .args .m) (c .args .g) (x .most) _ (c .in-Break-p .ensures tt .refuses); adds = refl; keeps = refl })
+    rw (p .1, p .2) (record { refuses = put-refused (stored x) (c .args .m) (c .args .g) (x .most) _ (c .in-Break-p .ensures tt .refuses); adds = refl; keeps = refl; rest = refl })
 
 pub add-requires : need.add-requires
 add-requires c κs = record { held = held-sure (c .args .self .now .store) (c .args .self .now .held); may = c .in-Continue-p .ensures tt .gives .1 }
@@ -29,7 +29,7 @@ returns-in-Break-add c =
     let p = err-from-errBy (c .from-residual-in-Break-add .result) (c .from-residual-in-Break-add .ensures .1) in
     let x = c .args .self .now .store in
     let e = c .in-Break-add .ensures tt in
-    rw (p .1, p .2) (record { refuses = put-last (stored x) (c .args .m) (c .args .g) (x .most) _ (c .in-Continue-p .ensures tt .refuses) (e .refuses); adds = e .adds; keeps = e .keeps })
+    rw (p .1, p .2) (record { refuses = put-last (stored x) (c .args .m) (c .args .g) (x .most) _ (c .in-Continue-p .ensures tt .refuses) (e .refuses); adds = e .adds; keeps = e .keeps; rest = e .rest })
 
 pub ghost-self-2 : need.ghost-self-2
 ghost-self-2 c =
@@ -47,4 +47,5 @@ returns c =
       refuses = put-last (stored x) (c .args .m) (c .args .g) (x .most) None (c .in-Continue-p .ensures tt .refuses) (e .refuses);
       adds = subst (λ p. stored (c .add .last .self) ≡ added p (stored x)) (c .in-Continue-p .ensures tt .gives .0) (e .adds);
       keeps = e .keeps;
+      rest = e .rest;
     }

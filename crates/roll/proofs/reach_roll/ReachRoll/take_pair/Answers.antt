@@ -9,7 +9,7 @@ use Rattle.rights.proofs.Checks.{first-hit}
 use Rattle.roll.proofs.reach_roll.ReachRoll.take_pair.Needs as need
 
 pub returns-in-rest : need.returns-in-rest
-returns-in-rest c = record { refuses = first-hit _ _ (c .in-rest .ensures tt); drops = refl; keeps = refl }
+returns-in-rest c = record { refuses = first-hit _ _ (c .in-rest .ensures tt); drops = refl; keeps = refl; rest = refl }
 
 pub take-out-requires : need.take-out-requires
 take-out-requires c κs = held-sure (c .args .self .now .store) (c .args .self .now .held)

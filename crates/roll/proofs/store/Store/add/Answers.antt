@@ -8,7 +8,7 @@ use Rattle.roll.proofs.Sounds.{sound-added}
 use Rattle.roll.proofs.store.Store.add.Needs as need
 
 pub returns-then-self : need.returns-then-self
-returns-then-self c = record { refuses = first-hit _ _ (length-stored (c .args .self .now) (c .pre .held) ∙ c .if-self .taken); adds = refl; keeps = refl; held = c .pre .held }
+returns-then-self c = record { refuses = first-hit _ _ (length-stored (c .args .self .now) (c .pre .held) ∙ c .if-self .taken); adds = refl; keeps = refl; held = c .pre .held; rest = refl }
 
 pub returns : need.returns
 returns c =
@@ -19,6 +19,7 @@ returns c =
       refuses = first-miss _ _ _ (λ e. c .if-self .left (sym (length-stored x h) ∙ e)) (first-none _ refl);
       adds = after .pairs;
       keeps = after .keeps;
+      rest = after .rest;
       held = record {
         room = omega (arith, after .keeps, after .long, h .room);
         few = let n = c .if-self .left in omega (arith, after .keeps, after .count, h .few);

@@ -11,7 +11,7 @@ use Rattle.roll.proofs.Places.{in-at}
 use Rattle.roll.proofs.store.Store.take_out.Needs as need
 
 pub returns-in-rest : need.returns-in-rest
-returns-in-rest c = record { refuses = first-hit _ _ (c .in-rest .ensures tt); drops = refl; keeps = refl; held = c .pre }
+returns-in-rest c = record { refuses = first-hit _ _ (c .in-rest .ensures tt); drops = refl; keeps = refl; held = c .pre; rest = refl }
 
 pub returns-in-rest-find : need.returns-in-rest-find
 returns-in-rest-find c = record {
@@ -19,6 +19,7 @@ returns-in-rest-find c = record {
   drops = refl;
   keeps = refl;
   held = c .pre;
+  rest = refl;
 }
 
 pub returns : need.returns
@@ -31,6 +32,7 @@ returns c =
       refuses = first-miss _ _ _ (λ n. n (c .in-Some .ensures tt .0)) (first-miss _ _ _ (λ n. n (subst (λ y. In y (stored x)) (at .1 (pair 0 0) ∙ is) (in-at (stored x) (c .in-Some-find .k) (pair 0 0) (at .0)))) (first-none _ refl));
       drops = after .pairs ∙ sym (dropped-at (pair (c .args .m) (c .args .g)) (stored x) (c .in-Some-find .k) (pair 0 0) (c .pre .sound .rising) (at .0) (at .1 (pair 0 0) ∙ is));
       keeps = after .keeps;
+      rest = after .rest;
       held = record {
         room = omega (arith, after .keeps, after .long, c .pre .room);
         few = omega (arith, after .keeps, after .count, c .pre .few);
