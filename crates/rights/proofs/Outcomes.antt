@@ -18,25 +18,7 @@ use Rattle.rights.specs.History.{History, empty_history, with_subjects, with_pai
 use Rattle.rights.specs.Lists.{In, Rising, Placed}
 use Rattle.rights.specs.Pairs.{pair, Before as PairBefore}
 use Rattle.rights.specs.Read.{privilege_of, mark_of, access_entry, admin_entry, tables_in}
-use Rattle.rights.specs.Refusals.{
-  Lent,
-  WellMade,
-  user_checks,
-  group_checks,
-  open_checks,
-  base_checks,
-  view_checks,
-  drop_checks,
-  admit_checks,
-  remove_checks,
-  grant_checks,
-  give_checks,
-  lend_checks,
-  revoke_checks,
-  may_checks,
-  checks,
-  sheet_checks,
-}
+use Rattle.rights.specs.Refusals.{Lent, WellMade, user_checks, group_checks, base_checks, view_checks, drop_checks, admit_checks, remove_checks, grant_checks, give_checks, lend_checks, checks, sheet_checks}
 use Rattle.rights.specs.Runs.{next_state, Accepted, Step, refused, accepted, Call, Run, done, more}
 use Rattle.rights.specs.Subjects.{Subjects, Registered, enrolled}
 use Rattle.rights.specs.Tables.{Table, Tables, made, unmade, Stands, Names, Level, level, LevelOver, over_none, over_more}

@@ -1,7 +1,7 @@
 -- Chains: why an entry stands. A list, the latest entry first, in which each grantor's cover comes from
 -- ownership and earlier entries of that list only.
 -- HasChain: an entry ends such a list of standing entries. Revoked: what a revocation keeps and what it strikes.
-use Rattle.std.specs.Prelude.{◌≡◌, List, [], ◌∷◌, ◌≢◌}
+use Rattle.std.specs.Prelude.{List, [], ◌∷◌, ◌≢◌}
 use Rattle.rights.specs.declared.entries.Entry.{Entry}
 use Rattle.rights.specs.Cover.{Supported}
 use Rattle.rights.specs.Lists.{In, Parted}

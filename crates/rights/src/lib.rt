@@ -1,4 +1,6 @@
 // The vocabulary of the register: rights, entries, pairs, records, refusals and commands.
+#![tactic(auto)]
+
 mod commands;
 mod entries;
 mod faults;
