@@ -169,9 +169,16 @@ orderly_from cs most rises keys sums few = record {
 -- ---- what a cell book keeps
 
 abbrev pub KeptCells : Store Cell → ℕ → ℕ → Type 0
-KeptCells s count ceiling =
-    (count ≤ ceiling) × ((ceiling ≤ length s.list.now) × ((ceiling ≤ 4096) × (Backed s
-    × ((sound (held (stored s)) ≡ true) × ((climbs (stored s) ≡ true) × ((numbered 0 (stored s) ≡ true) × ((count ≡ length (held (stored s))) × Unit {0})))))))
+KeptCells s count ceiling = record {
+  counted : count ≤ ceiling;
+  room : ceiling ≤ length s.list.now;
+  limited : ceiling ≤ 4096;
+  inside : Backed s;
+  rises : sound (held (stored s)) ≡ true;
+  keys : climbs (stored s) ≡ true;
+  sums : numbered 0 (stored s) ≡ true;
+  total : count ≡ length (held (stored s));
+}
 
 pub orderly_book : (b : Cells) → Orderly (cells b) b.ceiling
 orderly_book b = orderly_from (cells b) b.ceiling b.rises b.keys b.sums (subst (λ n. n ≤ b.ceiling) b.total b.counted)
@@ -201,25 +208,17 @@ module _ (b : Cells) (s : Store Cell) (cs : List Cell) (to : Refilled b.store cs
     pub kept_cells : (count : ℕ) → count ≡ length (held (stored s)) → KeptCells after count b.ceiling
     kept_cells count is =
         let total = is ∙ ap (λ l. length (held l)) to.holds in
-        let holds = whole.holds in (
-          omega (arith, o.few),
-          (
-            omega (arith, whole.long, b.room),
-            (
-              b.limited,
-              (
-                whole.inside,
-                (
-                  ap sound changed_holds ∙ sound_from (held cs) (held_rises cs o.climbing) o.proper,
-                  (
-                    ap climbs holds ∙ (decides_climbs (counted_on 0 cs)).1 (rising_counted 0 cs o.climbing),
-                    (ap (numbered 0) holds ∙ numbered_counted 0 cs o.filled, (total ∙ ap length (sym changed_holds), tt)),
-                  ),
-                ),
-              ),
-            ),
-          ),
-        )
+        let holds = whole.holds in
+        record {
+          counted = omega (arith, o.few);
+          room = omega (arith, whole.long, b.room);
+          limited = b.limited;
+          inside = whole.inside;
+          rises = ap sound changed_holds ∙ sound_from (held cs) (held_rises cs o.climbing) o.proper;
+          keys = ap climbs holds ∙ (decides_climbs (counted_on 0 cs)).1 (rising_counted 0 cs o.climbing);
+          sums = ap (numbered 0) holds ∙ numbered_counted 0 cs o.filled;
+          total = total ∙ ap length (sym changed_holds);
+        }
 
 -- what is read past the end of a list
 abbrev pub no_cell : Cell

@@ -15,9 +15,9 @@ pub length_standing : (b : Plain) → length (standing b) ≡ b.store.used
 length_standing b = length-take-le b.store.used b.store.list.now (omega (arith, b.counted, b.room))
 
 abbrev pub KeptPlain : Store Entry → ℕ → Type 0
-KeptPlain s ceiling = (s.used ≤ ceiling) × ((ceiling ≤ length s.list.now) × ((ceiling ≤ 4096) × ((sound (stored s) ≡ true) × Unit {0})))
+KeptPlain s ceiling = record { counted : s.used ≤ ceiling; room : ceiling ≤ length s.list.now; limited : ceiling ≤ 4096; rises : sound (stored s) ≡ true }
 
 pub kept_plain : (b : Plain) (after : Store Entry) (es : List Entry) → Refilled b.store es after → RisingEntries es → AllByRecursion Proper es → length es ≤ b.ceiling → KeptPlain after b.ceiling
 kept_plain b after es to up all few =
     let size = size_after b.store after es to in
-    (omega arith, (omega (arith, to.long, b.room), (b.limited, (ap sound to.holds ∙ sound_from es up all, tt))))
+    record { counted = omega arith; room = omega (arith, to.long, b.room); limited = b.limited; rises = ap sound to.holds ∙ sound_from es up all }

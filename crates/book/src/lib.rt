@@ -1,4 +1,6 @@
 // What a book is, and the books.
+#![tactic(auto)]
+
 mod keyed;
 mod making;
 mod maps;

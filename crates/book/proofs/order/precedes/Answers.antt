@@ -19,4 +19,4 @@ pub returns : goal.returns
 unfolding Before
 returns c =
     level _ _ _ c.if-e-f.false
-    (level _ _ _ c.if-e-f-2.false (level _ _ _ c.if-e-f-3.false (rw (c.bit-number.ensures, c.bit-number-2.ensures) (Decides-ltb _ _))))
+    (level _ _ _ c.if-e-f-2.false (level _ _ _ c.if-e-f-3.false (rw (c.bit_number.ensures, c.bit_number-2.ensures) (Decides-ltb _ _))))

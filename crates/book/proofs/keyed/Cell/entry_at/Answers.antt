@@ -13,7 +13,7 @@ use Rattle.book.specs.Cells.{has, entry_of, picked}
 use Rattle.book.proofs.Reading.{from_set, from_unset, nth_next}
 use Rattle.book.proofs.Table.{row_numbered}
 use Rattle.book.proofs.keyed.Cell.entry_at.Goals as goal
-use Rattle.book.proofs.keyed.Cell.entry_at.Goals.{then-is-set+else-left-eq0, else-is-set}
+use Rattle.book.proofs.keyed.Cell.entry_at.Goals.{then-is_set+else-left-eq0, else-is_set}
 
 -- what is left of a cell from row k on, and the entry sought at place n of it
 Left : Cell → ℕ → ℕ → Option Entry → Type 0
@@ -37,18 +37,18 @@ pub loop-k-preserved : goal.loop-k-preserved
 unfolding Left
 loop-k-preserved c =
     let b = c.args.self.now in
-    elim c.if-is-set.branch [
-      | then-is-set+else-left-eq0 w ↦ subst (λ n. Left b (c.loop-k.k + 1) n (slice_get (picked (entry_of b) b.rights rows) c.args.n)) (sym w.left-is)
-          (count b c.loop-k.k c.loop-k.left _ c.loop-k-test.true (sym c.is-set.ensures ∙ w.if-is-set.true) (omega (arith, w.if-left-eq0)) c.loop-k.invariant)
-      | else-is-set w ↦ subst (λ n. Left b (c.loop-k.k + 1) n (slice_get (picked (entry_of b) b.rights rows) c.args.n)) (sym w.left-is)
-          (pass b c.loop-k.k c.loop-k.left _ c.loop-k-test.true (sym c.is-set.ensures ∙ w.if-is-set.false) c.loop-k.invariant)
+    elim c.if-is_set.branch [
+      | then-is_set+else-left-eq0 w ↦ subst (λ n. Left b (c.loop-k.k + 1) n (slice_get (picked (entry_of b) b.rights rows) c.args.n)) (sym w.left-is)
+          (count b c.loop-k.k c.loop-k.left _ c.loop-k-test.true (sym c.is_set.ensures ∙ w.if-is_set.true) (omega (arith, w.if-left-eq0)) c.loop-k.invariant)
+      | else-is_set w ↦ subst (λ n. Left b (c.loop-k.k + 1) n (slice_get (picked (entry_of b) b.rights rows) c.args.n)) (sym w.left-is)
+          (pass b c.loop-k.k c.loop-k.left _ c.loop-k-test.true (sym c.is_set.ensures ∙ w.if-is_set.false) c.loop-k.invariant)
     ]
 
 pub returns-then-left-eq0 : goal.returns-then-left-eq0
 returns-then-left-eq0 c =
     let b = c.args.self.now in
     let q = c.row.result in
-    let is_set = sym c.is-set.ensures ∙ c.if-is-set.true in
+    let is_set = sym c.is_set.ensures ∙ c.if-is_set.true in
     let e = from_set (entry_of b) b.rights c.loop-k.k q c.loop-k-test.true is_set in
     let same : get_or rows c.loop-k.k q ≡ q = bit_injective _ _ (row_numbered c.loop-k.k q c.loop-k-test.true ∙ sym c.row.ensures) in
     sym c.loop-k.invariant.0 ∙ ap (λ n. slice_get (picked (entry_of b) b.rights (drop c.loop-k.k rows)) n) c.if-left-eq0.true ∙ ap (λ l. slice_get l 0) e ∙ ap (λ r. Some (entry_of b r)) same

@@ -4,5 +4,5 @@ use Rattle.book.specs.Cells.{KeyBefore}
 use Rattle.book.proofs.Heaps.{decides_climbs}
 use Rattle.book.proofs.packed.Cells.cell_of.Goals as goal
 
-pub find-cell-requires : goal.find-cell-requires
-find-cell-requires c = subst (Rising KeyBefore) (sym c.front.ensures) ((decides_climbs _).0 c.args.self.now.keys)
+pub find_cell-requires : goal.find_cell-requires
+find_cell-requires c = subst (Rising KeyBefore) (sym c.front.ensures) ((decides_climbs _).0 c.args.self.now.keys)

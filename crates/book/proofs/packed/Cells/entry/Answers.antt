@@ -19,20 +19,20 @@ module _ (b : Cells) (cs : List Cell) (k : ℕ) (same : cs ≡ cells b) where
 pub place-after-requires : goal.place-after-requires
 place-after-requires c = counts_fall _ (sums c.args.self.now _ c.args.k c.front-cells.ensures) c.args.k
 
-pub overflow-sub-cell : goal.overflow-sub-cell
-overflow-sub-cell c =
+pub overflow_sub-cell : goal.overflow_sub-cell
+overflow_sub-cell c =
     let b = c.args.self.now in
     let same = c.front-cells.ensures in
     some_below _ (sums b _ c.args.k same) c.args.k c.place-after.result no_cell c.place-after.ensures (below b _ c.args.k same c.requires)
 
-pub overflow-sub-k : goal.overflow-sub-k
-overflow-sub-k c =
+pub overflow_sub-k : goal.overflow_sub-k
+overflow_sub-k c =
     let b = c.args.self.now in
     let same = c.front-cells.ensures in
     starts _ (sums b _ c.args.k same) c.args.k c.place-after.result no_cell c.place-after.ensures (below b _ c.args.k same c.requires)
 
-pub entry-at-requires : goal.entry-at-requires
-entry-at-requires c =
+pub entry_at-requires : goal.entry_at-requires
+entry_at-requires c =
     let b = c.args.self.now in
     let same = c.front-cells.ensures in
     lasts _ (sums b _ c.args.k same) c.args.k c.place-after.result no_cell c.place-after.ensures (below b _ c.args.k same c.requires)
@@ -42,4 +42,4 @@ returns c =
     let b = c.args.self.now in
     let same = c.front-cells.ensures in
     ap (λ l. slice_get (held l) c.args.k) (sym same)
-    ∙ entry_there _ (sums b _ c.args.k same) c.args.k c.place-after.result no_cell c.place-after.ensures (below b _ c.args.k same c.requires) c.entry-at.result c.entry-at.ensures
+    ∙ entry_there _ (sums b _ c.args.k same) c.args.k c.place-after.result no_cell c.place-after.ensures (below b _ c.args.k same c.requires) c.entry_at.result c.entry_at.ensures

@@ -18,8 +18,8 @@ recount-self-requires c =
       few = few_held b _ _ c.insert.ensures c.requires.orderly;
     }
 
-pub invariant-of-self : goal.invariant-of-self
-invariant-of-self c =
+pub invariant_of-self : goal.invariant_of-self
+invariant_of-self c =
     kept_cells c.args.self.now _ _ c.insert.ensures c.requires.orderly _ c.recount-self.ensures.cells c.recount-self.result c.recount-self.ensures.entries
 
 pub returns : goal.returns

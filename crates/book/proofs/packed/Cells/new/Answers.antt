@@ -4,8 +4,8 @@ use Rattle.book.specs.Cells.{climbs, numbered}
 use Rattle.book.proofs.Makes.{ceiling_fits}
 use Rattle.book.proofs.packed.Cells.new.Goals as goal
 
-pub invariant-of-result : goal.invariant-of-result
+pub invariant_of-result : goal.invariant_of-result
 unfolding climbs numbered
-invariant-of-result c =
+invariant_of-result c =
     let fits = ceiling_fits _ _ _ c.ceiling-ceiling.ensures in
-    (omega arith, (fits.0, (fits.1, (omega arith, (sound_from [] tt tt, (refl, (refl, (refl, tt))))))))
+    record { counted = omega arith; room = fits.0; limited = fits.1; inside = omega arith; rises = sound_from [] tt tt; keys = refl; sums = refl; total = refl }

@@ -27,7 +27,7 @@ insert-requires c =
     record {
       place = omega (arith, c.requires.cell.0, length-take-le b.store.used b.store.list.now b.inside);
       room = cell_room b (omega (arith, b.counted, c.if-self.false));
-      orderly = put_inserts b c.args.e c.args.i c.requires.cell c.bit-number-k.result c.bit-number-k.ensures c.requires.proper (below b c.if-self.false);
+      orderly = put_inserts b c.args.e c.args.i c.requires.cell c.bit_number-k.result c.bit_number-k.ensures c.requires.proper (below b c.if-self.false);
     }
 
 pub returns : goal.returns
@@ -36,7 +36,7 @@ returns c =
     let b = c.args.self.now in
     record {
       refuses = inr ((λ bad. bad c.requires.proper), inr (absent b c.args.e c.args.i c.requires.cell, inr ((λ full. c.if-self.false (b.total ∙ full)), refl)));
-      after = c.insert.ensures.entries ∙ put_inserted b c.args.e c.args.i c.requires.cell c.bit-number-k.result c.bit-number-k.ensures c.requires.proper (below b c.if-self.false);
+      after = c.insert.ensures.entries ∙ put_inserted b c.args.e c.args.i c.requires.cell c.bit_number-k.result c.bit_number-k.ensures c.requires.proper (below b c.if-self.false);
       ceiling = c.insert.ensures.ceiling;
       rest = c.insert.ensures.rest;
     }

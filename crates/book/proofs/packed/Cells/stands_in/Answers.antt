@@ -5,9 +5,9 @@ use Rattle.book.specs.Cells.{has}
 use Rattle.book.proofs.Packs.{set_tells}
 use Rattle.book.proofs.packed.Cells.stands_in.Goals as goal
 
-pub is-set-requires : goal.is-set-requires
-is-set-requires c = let h = bit_below c.args.e.right in omega (arith, c.bit-number.ensures)
+pub is_set-requires : goal.is_set-requires
+is_set-requires c = let h = bit_below c.args.e.right in omega (arith, c.bit_number.ensures)
 
 pub returns : goal.returns
 returns c =
-    Decides-at _ _ (c.is-set.ensures ∙ ap (has _) c.bit-number.ensures) (set_tells c.args.self.now c.args.e c.args.i c.requires)
+    Decides-at _ _ (c.is_set.ensures ∙ ap (has _) c.bit_number.ensures) (set_tells c.args.self.now c.args.e c.args.i c.requires)

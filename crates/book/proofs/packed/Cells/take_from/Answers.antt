@@ -6,13 +6,13 @@ use Rattle.rights.proofs.Bits.{bit_below}
 use Rattle.book.proofs.Packs.{inside, set_tells, take_written, take_writes, take_removed, take_removes}
 use Rattle.book.proofs.packed.Cells.take_from.Goals as goal
 
-pub is-set-requires : goal.is-set-requires
-is-set-requires c = let h = bit_below c.args.e.right in omega (arith, c.bit-number-k.ensures)
+pub is_set-requires : goal.is_set-requires
+is_set-requires c = let h = bit_below c.args.e.right in omega (arith, c.bit_number-k.ensures)
 
-pub returns-then-not-is-set : goal.returns-then-not-is-set
+pub returns-then-not-is_set : goal.returns-then-not-is_set
 unfolding First
-returns-then-not-is-set c =
-    let unset = sym (c.if-not-is-set.ensures ∙ ap (has _) c.bit-number-k.ensures) in
+returns-then-not-is_set c =
+    let unset = sym (c.if-not-is_set.ensures ∙ ap (has _) c.bit_number-k.ensures) in
     record {
       refuses = inr ((λ bad. bad c.requires.proper), inl ((λ h. false≢true (sym unset ∙ (set_tells c.args.self.now c.args.e c.args.i c.requires.cell).1 h)), refl));
       after = refl;
@@ -23,17 +23,17 @@ returns-then-not-is-set c =
 pub remove-requires : goal.remove-requires
 remove-requires c =
     let b = c.args.self.now in
-    let set' = sym (c.if-not-is-set.ensures ∙ ap (has _) c.bit-number-k.ensures) in
-    record { place = inside b c.args.e c.args.i c.requires.cell; orderly = take_removes b c.args.e c.args.i c.requires.cell c.bit-number-k.result c.bit-number-k.ensures set' (sym c.size.ensures ∙ c.if-size-eq1.true) }
+    let set' = sym (c.if-not-is_set.ensures ∙ ap (has _) c.bit_number-k.ensures) in
+    record { place = inside b c.args.e c.args.i c.requires.cell; orderly = take_removes b c.args.e c.args.i c.requires.cell c.bit_number-k.result c.bit_number-k.ensures set' (sym c.size.ensures ∙ c.if-size-eq1.true) }
 
 pub returns-then-size-eq1 : goal.returns-then-size-eq1
 unfolding First
 returns-then-size-eq1 c =
     let b = c.args.self.now in
-    let set' = sym (c.if-not-is-set.ensures ∙ ap (has _) c.bit-number-k.ensures) in
+    let set' = sym (c.if-not-is_set.ensures ∙ ap (has _) c.bit_number-k.ensures) in
     record {
       refuses = inr ((λ bad. bad c.requires.proper), inr ((λ none. none ((set_tells b c.args.e c.args.i c.requires.cell).0 set')), refl));
-      after = c.remove.ensures.entries ∙ take_removed b c.args.e c.args.i c.requires.cell c.bit-number-k.result c.bit-number-k.ensures set' (sym c.size.ensures ∙ c.if-size-eq1.true);
+      after = c.remove.ensures.entries ∙ take_removed b c.args.e c.args.i c.requires.cell c.bit_number-k.result c.bit_number-k.ensures set' (sym c.size.ensures ∙ c.if-size-eq1.true);
       ceiling = c.remove.ensures.ceiling;
       rest = c.remove.ensures.rest;
     }
@@ -41,17 +41,17 @@ returns-then-size-eq1 c =
 pub write-requires : goal.write-requires
 write-requires c =
     let b = c.args.self.now in
-    let set' = sym (c.if-not-is-set.ensures ∙ ap (has _) c.bit-number-k.ensures) in
-    record { place = inside b c.args.e c.args.i c.requires.cell; orderly = take_writes b c.args.e c.args.i c.requires.cell c.bit-number-k.result c.bit-number-k.ensures set' (λ one. c.if-size-eq1.false (c.size.ensures ∙ one)) }
+    let set' = sym (c.if-not-is_set.ensures ∙ ap (has _) c.bit_number-k.ensures) in
+    record { place = inside b c.args.e c.args.i c.requires.cell; orderly = take_writes b c.args.e c.args.i c.requires.cell c.bit_number-k.result c.bit_number-k.ensures set' (λ one. c.if-size-eq1.false (c.size.ensures ∙ one)) }
 
 pub returns : goal.returns
 unfolding First
 returns c =
     let b = c.args.self.now in
-    let set' = sym (c.if-not-is-set.ensures ∙ ap (has _) c.bit-number-k.ensures) in
+    let set' = sym (c.if-not-is_set.ensures ∙ ap (has _) c.bit_number-k.ensures) in
     record {
       refuses = inr ((λ bad. bad c.requires.proper), inr ((λ none. none ((set_tells b c.args.e c.args.i c.requires.cell).0 set')), refl));
-      after = c.write.ensures.entries ∙ take_written b c.args.e c.args.i c.requires.cell c.bit-number-k.result c.bit-number-k.ensures set';
+      after = c.write.ensures.entries ∙ take_written b c.args.e c.args.i c.requires.cell c.bit_number-k.result c.bit_number-k.ensures set';
       ceiling = c.write.ensures.ceiling;
       rest = c.write.ensures.rest;
     }

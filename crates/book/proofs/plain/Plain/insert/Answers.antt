@@ -12,8 +12,8 @@ insert-requires c =
     let n = length_standing b in
     record { room = omega (arith, c.requires.room, b.room); place = omega (arith, c.requires.place.within) }
 
-pub invariant-of-self : goal.invariant-of-self
-invariant-of-self c =
+pub invariant_of-self : goal.invariant_of-self
+invariant_of-self c =
     let b = c.args.self.now in
     let es = standing b in
     let more = length-insert es c.args.k c.args.e c.requires.place.within in

@@ -3,7 +3,7 @@ use Rattle.rights.proofs.Order.{sound_from}
 use Rattle.book.proofs.Makes.{ceiling_fits}
 use Rattle.book.proofs.plain.Plain.new.Goals as goal
 
-pub invariant-of-result : goal.invariant-of-result
-invariant-of-result c =
+pub invariant_of-result : goal.invariant_of-result
+invariant_of-result c =
     let fits = ceiling_fits _ _ _ c.ceiling-ceiling.ensures in
-    (omega arith, (fits.0, (fits.1, (sound_from [] tt tt, tt))))
+    record { counted = omega arith; room = fits.0; limited = fits.1; rises = sound_from [] tt tt }

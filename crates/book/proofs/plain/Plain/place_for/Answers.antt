@@ -9,10 +9,10 @@ pub returns-then-not-proper : goal.returns-then-not-proper
 unfolding First
 returns-then-not-proper c = record { refuses = inl ((λ h. false≢true (c.if-not-proper.ensures.1 h)), refl); fits = tt }
 
-pub returns-in-default : goal.returns-in-default
+pub returns-in_default : goal.returns-in_default
 unfolding First
-returns-in-default c =
-    let h = c.in-default.ensures in
+returns-in_default c =
+    let h = c.in_default.ensures in
     record { refuses = inr ((λ bad. bad (c.if-not-proper.ensures.0 refl)), inl (stands_in c.args.e _ _ h.0 h.1, refl)); fits = tt }
 
 pub returns-then-self : goal.returns-then-self

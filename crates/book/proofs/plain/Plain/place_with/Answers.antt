@@ -8,9 +8,9 @@ pub returns-then-not-proper : goal.returns-then-not-proper
 unfolding First
 returns-then-not-proper c = record { refuses = inl ((λ h. false≢true (c.if-not-proper.ensures.1 h)), refl); stands = tt }
 
-pub returns-in-default : goal.returns-in-default
+pub returns-in_default : goal.returns-in_default
 unfolding First
-returns-in-default c = record { refuses = inr ((λ bad. bad (c.if-not-proper.ensures.0 refl)), inl (c.in-default.ensures.0, refl)); stands = tt }
+returns-in_default c = record { refuses = inr ((λ bad. bad (c.if-not-proper.ensures.0 refl)), inl (c.in_default.ensures.0, refl)); stands = tt }
 
 pub returns : goal.returns
 unfolding First

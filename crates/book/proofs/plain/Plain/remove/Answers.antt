@@ -7,8 +7,8 @@ use Rattle.book.proofs.Finds.{rising_removed, all_removed, stands_without}
 use Rattle.book.proofs.Plains.{length_standing, kept_plain}
 use Rattle.book.proofs.plain.Plain.remove.Goals as goal
 
-pub invariant-of-self : goal.invariant-of-self
-invariant-of-self c =
+pub invariant_of-self : goal.invariant_of-self
+invariant_of-self c =
     let b = c.args.self.now in
     let es = standing b in
     let n = length_standing b in

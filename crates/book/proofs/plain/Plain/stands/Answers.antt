@@ -12,4 +12,4 @@ found e es (Ok k) h = ((λ _. stands_in e es k h.0 h.1), (λ _. refl))
 found e es (Err k) h = ((λ no_test. absurd (false≢true no_test)), (λ i. absurd (h.0 i)))
 
 pub returns : goal.returns
-returns c = Decides-at _ _ c.is-ok.ensures.value (found c.args.e _ c.place-of.result c.place-of.ensures)
+returns c = Decides-at _ _ c.is_ok.ensures.value (found c.args.e _ c.place_of.result c.place_of.ensures)

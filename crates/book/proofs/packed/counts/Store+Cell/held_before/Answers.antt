@@ -9,8 +9,8 @@ returns c =
     let sum = counts_to s.list.now s.used c.args.i no_cell c.requires.inside (omega (arith, c.if-i-eq0.false)) c.requires.place c.requires.counted in
     omega (arith, c.size.ensures)
 
-pub overflow-add-result : goal.overflow-add-result
-overflow-add-result c =
+pub overflow_add-result : goal.overflow_add-result
+overflow_add-result c =
     let s = c.args.self.now in
     let sum = counts_to s.list.now s.used c.args.i no_cell c.requires.inside (omega (arith, c.if-i-eq0.false)) c.requires.place c.requires.counted in
     omega (arith, c.size.ensures, held_front c.args.i (stored s), c.requires.few)

@@ -6,10 +6,10 @@ use Rattle.book.proofs.packed.counts.Store+Cell.recount.Goals as goal
 pub loop-k-init : goal.loop-k-init
 loop-k-init c =
     let s = c.args.self.now in
-    (refl, counting_from s.list.now s.used c.args.i c.held-before-count.result c.requires.place c.requires.counted c.held-before-count.ensures)
+    (refl, counting_from s.list.now s.used c.args.i c.held_before-count.result c.requires.place c.requires.counted c.held_before-count.ensures)
 
-pub overflow-add-count : goal.overflow-add-count
-overflow-add-count c =
+pub overflow_add-count : goal.overflow_add-count
+overflow_add-count c =
     let s = c.args.self.now in
     let in' : c.loop-k.k < length s.list.now = omega (arith, c.loop-k-test.true, c.requires.inside) in
     let few = counting_few s.list.now _ c.loop-k.k c.loop-k.count no_cell c.loop-k.invariant.1 in' s.used c.loop-k-test.true in
