@@ -1,4 +1,6 @@
 // What a roll is, and the two rolls: the pair roll walks its pairs, the reach roll keeps a table.
+#![tactic(auto)]
+
 mod fresh;
 mod making;
 mod means;

@@ -5,8 +5,8 @@ use Rattle.std.proofs.lemmas.Bool.Decides.{not_from_Decides}
 use Rattle.rights.proofs.Checks.{first_hit, first_miss, first_none}
 use Rattle.roll.proofs.fresh.fresh.Goals as goal
 
-pub returns-in-default : goal.returns-in-default
-returns-in-default c = record { refuses = first_hit _ _ c.in-default.ensures; gives = tt }
+pub returns-in_default : goal.returns-in_default
+returns-in_default c = record { refuses = first_hit _ _ c.in_default.ensures; gives = tt }
 
 pub returns-then-holds : goal.returns-then-holds
 returns-then-holds c = record {

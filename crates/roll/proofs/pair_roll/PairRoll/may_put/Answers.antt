@@ -11,21 +11,21 @@ fresh-requires c = held_sure c.args.self.now.store c.args.self.now.held
 pub reached-requires : goal.reached-requires
 reached-requires c = held_sure c.args.self.now.store c.args.self.now.held
 
-pub returns-in-err-p : goal.returns-in-err-p
-returns-in-err-p c =
-    let p = err_from_is_err_and c.from-residual.result c.from-residual.ensures.1 in
-    rw (p.1, p.2) (record { refuses = put_early (stored c.args.self.now.store) c.args.m c.args.g _ c.in-err-p.ensures.refuses; gives = tt })
+pub returns-in_err-p : goal.returns-in_err-p
+returns-in_err-p c =
+    let p = err_from_is_err_and c.from_residual.result c.from_residual.ensures.1 in
+    rw (p.1, p.2) (record { refuses = put_early (stored c.args.self.now.store) c.args.m c.args.g _ c.in_err-p.ensures.refuses; gives = tt })
 
 pub returns-then-reached-p : goal.returns-then-reached-p
 returns-then-reached-p c =
-    let p = c.in-ok-p.p in
-    let e = c.in-ok-p.ensures in
+    let p = c.in_ok-p.p in
+    let e = c.in_ok-p.ensures in
     record { refuses = put_loop (stored c.args.self.now.store) c.args.m c.args.g p e.gives.0 e.refuses ((c.reached.ensures p.member).0 c.if-reached-p.true); gives = tt }
 
 pub returns : goal.returns
 returns c =
-    let p = c.in-ok-p.p in
-    let e = c.in-ok-p.ensures in
+    let p = c.in_ok-p.p in
+    let e = c.in_ok-p.ensures in
     let apart = not_from_Decides (get_or c.reached.result p.member false) (c.reached.ensures p.member) c.if-reached-p.false in
     record {
       refuses = put_may (stored c.args.self.now.store) c.args.m c.args.g p e.gives.0 e.refuses apart;

@@ -10,24 +10,24 @@ use Rattle.roll.proofs.reach_roll.ReachRoll.may_put.Goals as goal
 pub fresh-requires : goal.fresh-requires
 fresh-requires c = held_sure c.args.self.now.store c.args.self.now.held
 
-pub returns-in-err-p : goal.returns-in-err-p
-returns-in-err-p c =
-    let p = err_from_is_err_and c.from-residual.result c.from-residual.ensures.1 in
-    rw (p.1, p.2) (record { refuses = put_early (stored c.args.self.now.store) c.args.m c.args.g _ c.in-err-p.ensures.refuses; gives = tt })
+pub returns-in_err-p : goal.returns-in_err-p
+returns-in_err-p c =
+    let p = err_from_is_err_and c.from_residual.result c.from_residual.ensures.1 in
+    rw (p.1, p.2) (record { refuses = put_early (stored c.args.self.now.store) c.args.m c.args.g _ c.in_err-p.ensures.refuses; gives = tt })
 
 pub returns-then-self-p : goal.returns-then-self-p
 returns-then-self-p c =
     let x = c.args.self.now in
-    let p = c.in-ok-p.p in
-    let e = c.in-ok-p.ensures in
+    let p = c.in_ok-p.p in
+    let e = c.in_ok-p.ensures in
     let sure = current_sure (stored x.store) x.table x.current p.group p.member (omega (arith, e.gives.1.1.1)) (omega (arith, e.gives.1.0.1)) in
     record { refuses = put_loop (stored x.store) c.args.m c.args.g p e.gives.0 e.refuses (sure.0 c.if-self-p.true); gives = tt }
 
 pub returns : goal.returns
 returns c =
     let x = c.args.self.now in
-    let p = c.in-ok-p.p in
-    let e = c.in-ok-p.ensures in
+    let p = c.in_ok-p.p in
+    let e = c.in_ok-p.ensures in
     let sure = current_sure (stored x.store) x.table x.current p.group p.member (omega (arith, e.gives.1.1.1)) (omega (arith, e.gives.1.0.1)) in
     let apart = not_from_Decides (says x.table p.group p.member) sure c.if-self-p.false in
     record {

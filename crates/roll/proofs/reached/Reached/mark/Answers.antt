@@ -16,12 +16,12 @@ returns-then-self-h c = record { marks = marked_twice c.args.self.now.marks c.ar
 pub bounds-self-self : goal.bounds-self-self
 bounds-self-self c = omega (arith, less c, c.args.self.now.room)
 
-pub invariant-of-self : goal.invariant-of-self
-invariant-of-self c =
+pub invariant_of-self : goal.invariant_of-self
+invariant_of-self c =
     let l = c.args.self.now.long in
     let k : length c.args.self.now.found ≡ 256 = search rules in
     let n : c.args.self.now.count < 256 = omega (arith, less c, c.args.self.now.room) in
-    (length-set c.args.self.now.marks c.args.h true ∙ l, (omega (arith, less c, c.args.self.now.room), (∥∥₁_map c.args.self.now.listed (listed_more c.args.self.now.marks c.args.self.now.found c.args.self.now.count c.args.h (omega arith) (omega arith)), tt)))
+    record { long = length-set c.args.self.now.marks c.args.h true ∙ l; room = omega (arith, less c, c.args.self.now.room); listed = ∥∥₁_map c.args.self.now.listed (listed_more c.args.self.now.marks c.args.self.now.found c.args.self.now.count c.args.h (omega arith) (omega arith)) }
 
 pub returns : goal.returns
 returns c = record { marks = refl; marked = marked_self c.args.self.now.marks c.args.h (omega (arith, c.args.self.now.long)); found = take-set c.args.self.now.found c.args.self.now.count c.args.h; count = omega arith }

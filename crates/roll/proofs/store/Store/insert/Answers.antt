@@ -8,9 +8,9 @@ returns c =
     let x = c.args.self.now in
     let p = c.args.p in
     record {
-      pairs = moved_in x.list.now _ x.count c.args.k p c.requires.room c.requires.at c.requires.new (ap (λ l. set l c.args.k p) c.copy-within.ensures.after);
-      rest = past_in x.list.now _ x.count c.args.k p c.requires.room c.requires.at (ap (λ l. set l c.args.k p) c.copy-within.ensures.after);
+      pairs = moved_in x.list.now _ x.count c.args.k p c.requires.room c.requires.at c.requires.new (ap (λ l. set l c.args.k p) c.copy_within.ensures.after);
+      rest = past_in x.list.now _ x.count c.args.k p c.requires.room c.requires.at (ap (λ l. set l c.args.k p) c.copy_within.ensures.after);
       count = refl;
       keeps = refl;
-      long = length-set c.copy-within.new.self c.args.k p ∙ c.copy-within.ensures.len;
+      long = length-set c.copy_within.new.self c.args.k p ∙ c.copy_within.ensures.len;
     }

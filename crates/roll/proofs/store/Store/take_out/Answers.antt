@@ -9,12 +9,12 @@ use Rattle.roll.proofs.Moves.{sound_removed}
 use Rattle.roll.proofs.Places.{in_at}
 use Rattle.roll.proofs.store.Store.take_out.Goals as goal
 
-pub returns-in-default : goal.returns-in-default
-returns-in-default c = record { refuses = first_hit _ _ c.in-default.ensures; drops = refl; keeps = refl; held = c.requires; rest = refl }
+pub returns-in_default : goal.returns-in_default
+returns-in_default c = record { refuses = first_hit _ _ c.in_default.ensures; drops = refl; keeps = refl; held = c.requires; rest = refl }
 
-pub returns-in-default-find : goal.returns-in-default-find
-returns-in-default-find c = record {
-  refuses = first_miss _ _ _ (λ n. n c.in-Some.ensures.0) (first_hit _ _ (λ i. c.in-default-find.ensures (subst (λ x. In x (stored c.args.self.now)) (sym c.in-Some.ensures.1) i)));
+pub returns-in_default-find : goal.returns-in_default-find
+returns-in_default-find c = record {
+  refuses = first_miss _ _ _ (λ n. n c.in-Some.ensures.0) (first_hit _ _ (λ i. c.in_default-find.ensures (subst (λ x. In x (stored c.args.self.now)) (sym c.in-Some.ensures.1) i)));
   drops = refl;
   keeps = refl;
   held = c.requires;
