@@ -35,12 +35,22 @@ get_or_fill d zero k = refl
 get_or_fill d (suc n) zero = refl
 get_or_fill d (suc n) (suc k) = get_or_fill d n k
 
--- the parts in the order in which the struct has them
+-- the facts that the struct keeps
 abbrev pub Parts : List (Option Subject) → List (Option TableRecord) → Type 0
-Parts ss ts = (length ss ≡ 256) × ((length ts ≡ 128) × (NoOffice ss × (Owned ss ts × (Few ts × (Standing ts × (RisingNames ts × (Levelled ts × (Low ts × Unit {0}))))))))
+Parts ss ts = record {
+  wide : length ss ≡ 256;
+  long : length ts ≡ 128;
+  office : NoOffice ss;
+  owned : Owned ss ts;
+  few : Few ts;
+  standing : Standing ts;
+  rising : RisingNames ts;
+  levelled : Levelled ts;
+  low : Low ts;
+}
 
 pub parts : {ss : List (Option Subject)} {ts : List (Option TableRecord)} → Sound ss ts → Parts ss ts
-parts s = (s.wide, (s.long, (s.office, (s.owned, (s.few, (s.standing, (s.rising, (s.levelled, (s.low, tt)))))))))
+parts s = record { wide = s.wide; long = s.long; office = s.office; owned = s.owned; few = s.few; standing = s.standing; rising = s.rising; levelled = s.levelled; low = s.low }
 
 no_row : (m t : ℕ) (r : TableRecord) → get_or (replicate m None) t None ≡ Some r → ⊥
 no_row m t r e = none_some _ (sym (get_or_fill None m t) ∙ e)

@@ -6,7 +6,7 @@ use Rattle.rights.proofs.Checks.{none_some}
 use Rattle.register.proofs.catalogue.Catalogue.first_person.Goals as goal
 
 pub loop-n-preserved : goal.loop-n-preserved
-loop-n-preserved c = below_more _ _ c.loop-n.invariant (not_from_Decides c.is-person.result c.is-person.ensures c.if-is-person.false)
+loop-n-preserved c = below_more _ _ c.loop-n.invariant (not_from_Decides c.is_person.result c.is_person.ensures c.if-is_person.false)
 
 pub returns : goal.returns
 returns c =

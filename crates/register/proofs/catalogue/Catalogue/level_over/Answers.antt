@@ -10,9 +10,9 @@ loop-d-preserved c =
     let i = c.loop-d.d-index in
     let sofar : max c.loop-d.level (level_over ts (drop i xs)) ≡ level_over ts xs = c.loop-d.invariant.1 in
     let next : level_over ts (drop i xs) ≡ max (level_at (get_or ts (get_or xs i 0) None) + 1) (level_over ts (drop (i + 1) xs)) = at_drop_more (level_over ts) xs i 0 c.loop-d-test.true in
-    let here : c.level-at.result ≡ level_at (get_or ts (get_or xs i 0) None) = c.level-at.ensures.value in
-    let larger : c.max-level.result ≡ max c.loop-d.level (c.level-at.result + 1) = c.max-level.ensures in
-    (omega (arith, c.level-at.ensures.low, c.loop-d.invariant.0), omega arith)
+    let here : c.level_at.result ≡ level_at (get_or ts (get_or xs i 0) None) = c.level_at.ensures.value in
+    let larger : c.max-level.result ≡ max c.loop-d.level (c.level_at.result + 1) = c.max-level.ensures in
+    (omega (arith, c.level_at.ensures.low, c.loop-d.invariant.0), omega arith)
 
 pub returns : goal.returns
 returns c =

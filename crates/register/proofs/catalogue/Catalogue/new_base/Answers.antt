@@ -9,18 +9,18 @@ pub returns-then-i-gt255 : goal.returns-then-i-gt255
 unfolding base_checks
 returns-then-i-gt255 c = record { verdict = first_hit _ _ (λ good. omega arith); table = tt; fitting = tt }
 
-pub returns-then-is-strange : goal.returns-then-is-strange
+pub returns-then-is_strange : goal.returns-then-is_strange
 unfolding base_checks
-returns-then-is-strange c = record {
-  verdict = first_miss _ _ _ (λ bad. bad (omega arith, omega arith)) (first_hit _ _ (c.is-strange.ensures.0 c.if-is-strange.true));
+returns-then-is_strange c = record {
+  verdict = first_miss _ _ _ (λ bad. bad (omega arith, omega arith)) (first_hit _ _ (c.is_strange.ensures.0 c.if-is_strange.true));
   table = tt;
   fitting = tt;
 }
 
-pub returns-then-lacks-mark : goal.returns-then-lacks-mark
+pub returns-then-lacks_mark : goal.returns-then-lacks_mark
 unfolding base_checks
-returns-then-lacks-mark c = record {
-  verdict = first_miss _ _ _ (λ bad. bad (omega arith, omega arith)) (first_miss _ _ _ (not_from_Decides _ c.is-strange.ensures c.if-is-strange.false) (first_hit _ _ (c.lacks-mark.ensures.0 c.if-lacks-mark.true)));
+returns-then-lacks_mark c = record {
+  verdict = first_miss _ _ _ (λ bad. bad (omega arith, omega arith)) (first_miss _ _ _ (not_from_Decides _ c.is_strange.ensures c.if-is_strange.false) (first_hit _ _ (c.lacks_mark.ensures.0 c.if-lacks_mark.true)));
   table = tt;
   fitting = tt;
 }
@@ -28,7 +28,7 @@ returns-then-lacks-mark c = record {
 pub returns-then-stands : goal.returns-then-stands
 unfolding base_checks
 returns-then-stands c = record {
-  verdict = first_miss _ _ _ (λ bad. bad (omega arith, omega arith)) (first_miss _ _ _ (not_from_Decides _ c.is-strange.ensures c.if-is-strange.false) (first_miss _ _ _ (not_from_Decides _ c.lacks-mark.ensures c.if-lacks-mark.false) (first_hit _ _ (c.stands.ensures.0 c.if-stands.true))));
+  verdict = first_miss _ _ _ (λ bad. bad (omega arith, omega arith)) (first_miss _ _ _ (not_from_Decides _ c.is_strange.ensures c.if-is_strange.false) (first_miss _ _ _ (not_from_Decides _ c.lacks_mark.ensures c.if-lacks_mark.false) (first_hit _ _ (c.stands.ensures.0 c.if-stands.true))));
   table = tt;
   fitting = tt;
 }
@@ -38,12 +38,12 @@ unfolding base_checks
 returns c =
     let s = c.args.self.now in
     record {
-      verdict = first_miss _ _ _ (λ bad. bad (omega arith, omega arith)) (first_miss _ _ _ (not_from_Decides _ c.is-strange.ensures c.if-is-strange.false) (first_miss _ _ _ (not_from_Decides _ c.lacks-mark.ensures c.if-lacks-mark.false) (first_miss _ _ _ (not_from_Decides _ c.stands.ensures c.if-stands.false) (first_none None refl))));
+      verdict = first_miss _ _ _ (λ bad. bad (omega arith, omega arith)) (first_miss _ _ _ (not_from_Decides _ c.is_strange.ensures c.if-is_strange.false) (first_miss _ _ _ (not_from_Decides _ c.lacks_mark.ensures c.if-lacks_mark.false) (first_miss _ _ _ (not_from_Decides _ c.stands.ensures c.if-stands.false) (first_none None refl))));
       table = refl;
       fitting = record {
         within = omega arith;
         free = free_from s.tables c.args.t (not_from_Decides _ c.stands.ensures c.if-stands.false);
-        owned = creator_from s.subjects c.args.i (not_from_Decides _ c.lacks-mark.ensures c.if-lacks-mark.false);
+        owned = creator_from s.subjects c.args.i (not_from_Decides _ c.lacks_mark.ensures c.if-lacks_mark.false);
         few = omega arith;
         standing = refl;
         rising = refl;

@@ -15,16 +15,16 @@ pub returns-then-n-eq0 : goal.returns-then-n-eq0
 unfolding user_checks
 returns-then-n-eq0 c = record { verdict = first_hit _ _ (λ good. omega arith); person = tt; vacant = tt }
 
-pub returns-then-is-some : goal.returns-then-is-some
+pub returns-then-is_some : goal.returns-then-is_some
 unfolding user_checks
-returns-then-is-some c =
-    let found = some_from c.subject.result (sym c.if-is-some.ensures) in
+returns-then-is_some c =
+    let found = some_from c.subject.result (sym c.if-is_some.ensures) in
     record { verdict = first_miss _ _ _ (λ bad. bad ((omega arith, omega arith), omega arith)) (first_hit _ _ (found.0, sym c.subject.ensures ∙ found.1)); person = tt; vacant = tt }
 
 pub returns : goal.returns
 unfolding user_checks
 returns c =
-    let free = sym c.subject.ensures ∙ none_from c.subject.result (sym c.if-is-some.ensures) in
+    let free = sym c.subject.ensures ∙ none_from c.subject.result (sym c.if-is_some.ensures) in
     record {
       verdict = first_miss _ _ _ (λ bad. bad ((omega arith, omega arith), omega arith)) (first_miss _ _ _ (λ taken. none_some _ (sym free ∙ taken.1)) (first_none None refl));
       person = ap Subject.Person (mark c.args.c (omega arith));

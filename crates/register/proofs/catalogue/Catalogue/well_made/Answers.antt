@@ -1,4 +1,4 @@
-use Rattle.std.proofs.Common.{◌≡◌, true, length, sym, ◌∙◌, ⊎_elim, arith}
+use Rattle.std.proofs.Common.{◌≡◌, length, sym, ◌∙◌, ⊎_elim, arith}
 use Rattle.std.proofs.lemmas.Bool.{false≢true, leb-true, le-leb, eqb-true, eqb-false}
 use Rattle.rights.specs.Refusals.{WellMade}
 use Rattle.register.specs.Rows.{level_over}
@@ -6,10 +6,10 @@ use Rattle.register.proofs.Levels.{stand_from, level_over_is, over_only, rise_de
 use Rattle.register.proofs.Whole.{sound}
 use Rattle.register.proofs.catalogue.Catalogue.well_made.Goals as goal
 
-pub returns-then-is-empty : goal.returns-then-is-empty
+pub returns-then-is_empty : goal.returns-then-is_empty
 unfolding WellMade
-returns-then-is-empty c =
-    (λ e. absurd (false≢true e), λ made. absurd (⊎_elim (λ empty. omega (arith, made.0, eqb-true _ 0 (sym c.is-empty.ensures ∙ empty))) (λ long. omega (arith, made.1, long.1)) c.then-is-empty.either))
+returns-then-is_empty c =
+    (λ e. absurd (false≢true e), λ made. absurd (⊎_elim (λ empty. omega (arith, made.0, eqb-true _ 0 (sym c.is_empty.ensures ∙ empty))) (λ long. omega (arith, made.1, long.1)) c.then-is_empty.either))
 
 pub returns-then-not-rises : goal.returns-then-not-rises
 unfolding WellMade
@@ -20,9 +20,9 @@ unfolding WellMade
 returns c =
     let s = c.args.self.now in
     let xs = c.args.names.now in
-    let is : c.level-over.result ≡ level_over s.tables xs = c.level-over.ensures.value in (
+    let is : c.level_over.result ≡ level_over s.tables xs = c.level_over.ensures.value in (
       λ e. (
-        omega (arith, eqb-false (length xs) 0 (sym c.if-is-empty.ensures)),
+        omega (arith, eqb-false (length xs) 0 (sym c.if-is_empty.ensures)),
         c.if-names-gt8.false,
         (rise_decides xs).0 (sym c.if-not-rises.ensures),
         (level_over s.tables xs, level_over_is _ _ (sound s) xs (stand_from _ xs c.requires), omega (arith, leb-true _ 7 e)),

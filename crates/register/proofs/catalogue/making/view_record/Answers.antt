@@ -4,8 +4,8 @@ use Rattle.std.proofs.lemmas.List.{same_lists, get_or_default}
 use Rattle.rights.specs.Numbers.{TableNumber}
 use Rattle.register.proofs.catalogue.making.view_record.Goals as goal
 
-pub overflow-cast-list : goal.overflow-cast-list
-overflow-cast-list c = let low = All-get_or TableNumber c.args.names.now c.loop-k.k 0 c.loop-k-test.true c.requires.tables in search rules
+pub overflow_cast-list : goal.overflow_cast-list
+overflow_cast-list c = let low = All-get_or TableNumber c.args.names.now c.loop-k.k 0 c.loop-k-test.true c.requires.tables in search rules
 
 pub returns : goal.returns
 returns c =
