@@ -1,7 +1,7 @@
 -- The lines of a sheet, and the parts of a line. Assumes nothing.
 -- Without: a byte stands nowhere in a list. lines: each byte 10 ends a line, and what follows the last one
 -- is a line unless empty. parts: what stands between the spaces (byte 32) of a line, before and after them.
-use Rattle.std.specs.Prelude.{◌≡◌, ℕ, cond, List, [], ◌∷◌, ◌==◌, ◌≢◌}
+use Rattle.std.specs.Prelude.{ℕ, cond, List, [], ◌∷◌, ◌==◌, ◌≢◌}
 use Rattle.std.specs.List.{AllByRecursion}
 
 -- no byte of bs is b

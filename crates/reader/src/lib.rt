@@ -1,4 +1,6 @@
 // Reads the bytes of a sheet into commands, and writes the text of answers.
+#![tactic(auto)]
+
 mod answers;
 mod commands;
 mod lines;

@@ -43,10 +43,10 @@ pub returns-in-May-len3 : goal.returns-in-May-len3
 returns-in-May-len3 c = made _ c.args.word c.args.list.now c.in-May-len3.is-0 (omega (arith, ltb-true, ltb-false)) (omega arith) tt
 
 -- what stands after the first two numbers
-pub returns-in-err-named : goal.returns-in-err-named
-returns-in-err-named c =
-    view_none c.named.result c.from-residual.result c.args.word c.args.list.now _ c.named.ensures c.in-err-named.was c.from-residual.ensures c.in-View-len2-up.is-0 (take_rest c.args.list.now 2)
+pub returns-in_err-named-in-View-len2-up : goal.returns-in_err-named-in-View-len2-up
+returns-in_err-named-in-View-len2-up c =
+    view_none c.named.result c.from_residual.result c.args.word c.args.list.now _ c.named.ensures c.in_err-named-in-View-len2-up.was c.from_residual.ensures c.in-View-len2-up.is-0 (take_rest c.args.list.now 2)
 
-pub returns-in-ok-named : goal.returns-in-ok-named
-returns-in-ok-named c =
-    view_made c.in-ok-named.field-0 c.args.word c.args.list.now _ c.in-View-len2-up.is-0 (omega (arith, ltb-true, ltb-false)) (take_rest c.args.list.now 2) ((c.named.ensures c.in-ok-named.field-0).0 c.in-ok-named.was)
+pub returns-in_ok-named-in-View-len2-up : goal.returns-in_ok-named-in-View-len2-up
+returns-in_ok-named-in-View-len2-up c =
+    view_made c.in_ok-named-in-View-len2-up.field-0 c.args.word c.args.list.now _ c.in-View-len2-up.is-0 (omega (arith, ltb-true, ltb-false)) (take_rest c.args.list.now 2) ((c.named.ensures c.in_ok-named-in-View-len2-up.field-0).0 c.in_ok-named-in-View-len2-up.was)

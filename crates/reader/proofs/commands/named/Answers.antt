@@ -6,4 +6,4 @@ pub returns : goal.returns
 returns c =
     let list = c.args.list.now in
     let all : length list - 0 ≡ length list = omega arith in
-    named_made _ list refl (λ i. c.copy-from-slice.ensures.after i ++ drop (all i) (replicate 14 0))
+    named_made _ list refl (λ i. c.copy_from_slice.ensures.after i ++ drop (all i) (replicate 14 0))
