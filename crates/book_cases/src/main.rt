@@ -1,4 +1,6 @@
 // The same long list of puts and takes on a plain book and a cell book, compared after each.
+#![tactic(auto)]
+
 mod steps;
 mod trial;
 
