@@ -1,4 +1,6 @@
 // Runs the same puts and takes on both rolls, and compares all that they tell.
+#![tactic(auto)]
+
 mod rolls;
 mod stories;
 
