@@ -1,5 +1,5 @@
 -- From what a call of a state promises to the answer of the rules. Assumes nothing.
-use Rattle.std.proofs.Common.{◌≡◌, ℕ, true, false, [], Some, None, Ok, Err, Result, sym, refl, ap, subst, MatchResult}
+use Rattle.std.proofs.Common.{◌≡◌, ℕ, true, [], Some, None, Ok, Err, Result, sym, refl, ap, subst, MatchResult}
 use Rattle.std.proofs.lemmas.Bool.{false≢true}
 use Rattle.register.specs.declared.catalogue.Catalogue.{Catalogue}
 use Rattle.register.specs.Catalogue.{subjects_in, tables_in, Enrolled, Tabled}

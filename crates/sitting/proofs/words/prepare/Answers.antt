@@ -16,8 +16,8 @@ returns-in-User c =
     let r = c.user-done.result in
     let step : (lent : Lent) → Step lent State.SettingUp (history_of x) (Command.User c.in-User.n c.in-User.c) [] (answer_of r) State.SettingUp (history_of x') = user_step x x' r c.in-User.n c.in-User.c c.user-done.ensures.verdict c.user-done.ensures.effect in
     record {
-      answer = subst (λ (k : Command). Answered State.SettingUp (history_of x) k c.answer-to.result State.SettingUp (history_of x')) (sym c.in-User.is) (subst (λ (a : Answer). (lent : Lent) → Step lent State.SettingUp (history_of x) (Command.User c.in-User.n c.in-User.c) [] a State.SettingUp (history_of x')) (sym c.answer-to.ensures) step);
-      count = subst (λ (a : Answer). Tallied a c.args.sitting.carried c.user-done.new.self.carried) (sym c.answer-to.ensures) (tallied r _ _ c.user-done.ensures.count);
+      answer = subst (λ (k : Command). Answered State.SettingUp (history_of x) k c.answer_to.result State.SettingUp (history_of x')) (sym c.in-User.is) (subst (λ (a : Answer). (lent : Lent) → Step lent State.SettingUp (history_of x) (Command.User c.in-User.n c.in-User.c) [] a State.SettingUp (history_of x')) (sym c.answer_to.ensures) step);
+      count = subst (λ (a : Answer). Tallied a c.args.sitting.carried c.user-done.new.self.carried) (sym c.answer_to.ensures) (tallied r _ _ c.user-done.ensures.count);
     }
 
 pub returns-in-Group : goal.returns-in-Group
@@ -27,8 +27,8 @@ returns-in-Group c =
     let r = c.group-done.result in
     let step : (lent : Lent) → Step lent State.SettingUp (history_of x) (Command.Group c.in-Group.n) [] (answer_of r) State.SettingUp (history_of x') = group_step x x' r c.in-Group.n c.group-done.ensures.verdict c.group-done.ensures.effect in
     record {
-      answer = subst (λ (k : Command). Answered State.SettingUp (history_of x) k c.answer-to-in-Group.result State.SettingUp (history_of x')) (sym c.in-Group.is) (subst (λ (a : Answer). (lent : Lent) → Step lent State.SettingUp (history_of x) (Command.Group c.in-Group.n) [] a State.SettingUp (history_of x')) (sym c.answer-to-in-Group.ensures) step);
-      count = subst (λ (a : Answer). Tallied a c.args.sitting.carried c.group-done.new.self.carried) (sym c.answer-to-in-Group.ensures) (tallied r _ _ c.group-done.ensures.count);
+      answer = subst (λ (k : Command). Answered State.SettingUp (history_of x) k c.answer_to-in-Group.result State.SettingUp (history_of x')) (sym c.in-Group.is) (subst (λ (a : Answer). (lent : Lent) → Step lent State.SettingUp (history_of x) (Command.Group c.in-Group.n) [] a State.SettingUp (history_of x')) (sym c.answer_to-in-Group.ensures) step);
+      count = subst (λ (a : Answer). Tallied a c.args.sitting.carried c.group-done.new.self.carried) (sym c.answer_to-in-Group.ensures) (tallied r _ _ c.group-done.ensures.count);
     }
 
 pub returns-in-Ok : goal.returns-in-Ok
@@ -47,5 +47,5 @@ returns-in-Err c =
       count = c.in-Err.ensures.count;
     }
 
-pub returns-in-default : goal.returns-in-default
-returns-in-default c = record { answer = late_set_up _ c.args.command c.requires c.in-default.not-User c.in-default.not-Group c.in-default.not-Open; count = refl }
+pub returns-in_default : goal.returns-in_default
+returns-in_default c = record { answer = late_set_up _ c.args.command c.requires c.in_default.not-User c.in_default.not-Group c.in_default.not-Open; count = refl }

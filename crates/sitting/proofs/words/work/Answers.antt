@@ -15,8 +15,8 @@ returns-in-Base c =
     let r = c.base-done.result in
     let step : (lent : Lent) → Step lent State.Open (history_of x) (Command.Base c.in-Base.i c.in-Base.t) [] (answer_of r) State.Open (history_of x') = base_step x x' r c.in-Base.i c.in-Base.t c.base-done.ensures.verdict c.base-done.ensures.effect in
     record {
-      answer = subst (λ (k : Command). Answered State.Open (history_of x) k c.answer-to.result State.Open (history_of x')) (sym c.in-Base.is) (subst (λ (a : Answer). (lent : Lent) → Step lent State.Open (history_of x) (Command.Base c.in-Base.i c.in-Base.t) [] a State.Open (history_of x')) (sym c.answer-to.ensures) step);
-      count = subst (λ (a : Answer). Tallied a c.args.sitting.carried c.base-done.new.self.carried) (sym c.answer-to.ensures) (tallied r _ _ c.base-done.ensures.count);
+      answer = subst (λ (k : Command). Answered State.Open (history_of x) k c.answer_to.result State.Open (history_of x')) (sym c.in-Base.is) (subst (λ (a : Answer). (lent : Lent) → Step lent State.Open (history_of x) (Command.Base c.in-Base.i c.in-Base.t) [] a State.Open (history_of x')) (sym c.answer_to.ensures) step);
+      count = subst (λ (a : Answer). Tallied a c.args.sitting.carried c.base-done.new.self.carried) (sym c.answer_to.ensures) (tallied r _ _ c.base-done.ensures.count);
     }
 
 pub returns-in-View : goal.returns-in-View
@@ -26,8 +26,8 @@ returns-in-View c =
     let r = c.view-done.result in
     let step : (lent : Lent) → Step lent State.Open (history_of x) (Command.View c.in-View.i c.in-View.t c.in-View.d) [] (answer_of r) State.Open (history_of x') = view_step x x' r c.in-View.i c.in-View.t c.in-View.d (rw c.listed.ensures at c.view-done.ensures.verdict) (rw c.listed.ensures at c.view-done.ensures.effect) in
     record {
-      answer = subst (λ (k : Command). Answered State.Open (history_of x) k c.answer-to-in-View.result State.Open (history_of x')) (sym c.in-View.is) (subst (λ (a : Answer). (lent : Lent) → Step lent State.Open (history_of x) (Command.View c.in-View.i c.in-View.t c.in-View.d) [] a State.Open (history_of x')) (sym c.answer-to-in-View.ensures) step);
-      count = subst (λ (a : Answer). Tallied a c.args.sitting.carried c.view-done.new.self.carried) (sym c.answer-to-in-View.ensures) (tallied r _ _ c.view-done.ensures.count);
+      answer = subst (λ (k : Command). Answered State.Open (history_of x) k c.answer_to-in-View.result State.Open (history_of x')) (sym c.in-View.is) (subst (λ (a : Answer). (lent : Lent) → Step lent State.Open (history_of x) (Command.View c.in-View.i c.in-View.t c.in-View.d) [] a State.Open (history_of x')) (sym c.answer_to-in-View.ensures) step);
+      count = subst (λ (a : Answer). Tallied a c.args.sitting.carried c.view-done.new.self.carried) (sym c.answer_to-in-View.ensures) (tallied r _ _ c.view-done.ensures.count);
     }
 
 pub returns-in-Close : goal.returns-in-Close
@@ -38,5 +38,5 @@ returns-in-Close c =
       count = c.close.ensures;
     }
 
-pub returns-in-default : goal.returns-in-default
-returns-in-default c = record { answer = late_open _ c.args.command c.requires c.in-default.not-Base c.in-default.not-View c.in-default.not-Close; count = refl }
+pub returns-in_default : goal.returns-in_default
+returns-in_default c = record { answer = late_open _ c.args.command c.requires c.in_default.not-Base c.in_default.not-View c.in_default.not-Close; count = refl }

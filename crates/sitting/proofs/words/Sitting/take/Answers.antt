@@ -11,6 +11,6 @@ pub returns-in-Closed : goal.returns-in-Closed
 returns-in-Closed c =
     let h = history_of c.args.catalogue.now in
     record {
-      answer = subst (λ (s : Sitting). Answered (state_of s) h c.args.command (Answer.Refused SheetFault.OutOfTurn) State.Closed h) (sym c.in-Closed.is) (late_closed h c.args.command (sym c.if-not-is-known.ensures));
+      answer = subst (λ (s : Sitting). Answered (state_of s) h c.args.command (Answer.Refused SheetFault.OutOfTurn) State.Closed h) (sym c.in-Closed.is) (late_closed h c.args.command (sym c.if-not-is_known.ensures));
       count = sym (ap carried_in c.in-Closed.is);
     }
