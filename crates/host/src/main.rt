@@ -1,4 +1,6 @@
 // A host's program. It works with the three states as types, and then with one sitting in whichever state.
+#![tactic(auto)]
+
 ghost use Rattle.std.specs.Prelude.{◌≡◌};
 ghost use Rattle.sitting.specs.Today.{state_of};
 
