@@ -1,4 +1,6 @@
 // Marks a sheet: one answer for each of its lines.
+#![tactic(auto)]
+
 ghost use Rattle.std.specs.Prelude.{◌≡◌, ◌++◌, IfOk, OnOk};
 ghost use Rattle.reader.specs.Answers.{answer_line};
 ghost use Rattle.sitting.specs.Today.{state_of, history_of};
