@@ -1,4 +1,6 @@
 // Marks the sheets that its arguments name, one after the other, and prints the answers under each name.
+#![tactic(auto)]
+
 use marking::mark;
 use std::io::Write;
 use std::{env, fs};
