@@ -1,4 +1,6 @@
 // Reads a sheet from standard input, and prints the answer to each of its lines.
+#![tactic(auto)]
+
 use marking::mark;
 use std::io::{Read, Write};
 
