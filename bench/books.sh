@@ -6,18 +6,17 @@ here=$(cd "$(dirname "$0")/.." && pwd)
 work=$(mktemp -d)
 trap 'rm -rf "$work"' EXIT
 mkdir -p "$work/crates/books_bench/src" "$work/crates/books_bench/specs" "$work/crates/books_bench/proofs"
-cp -r "$here/crates/rights" "$here/crates/book" "$work/crates/"
-rm -rf "$work/crates/rights/must-fail" "$work/crates/book/must-fail"
+(cd "$here/crates" && tar --exclude=out --exclude=must-fail -cf - rights book) | tar -xf - -C "$work/crates"
 touch "$work/crates/books_bench/specs/Lib.antt" "$work/crates/books_bench/proofs/Lib.antt"
-printf 'rights:\nbook: rights\nbooks_bench: book rights\n' > "$work/crates.txt"
+printf 'rights:\nbook: rights\nbooks_bench staticlib: book rights\n' > "$work/crates.txt"
 cat > "$work/crates/books_bench/src/lib.rt" <<'SOURCE'
 // Puts 4,000 entries in a scattered order, reads all places in order and takes all entries, on either book.
+#![tactic(auto)]
+
 use book::Book;
 use book::Cell;
 use book::Cells;
-use book::CellsBook;
 use book::Plain;
-use book::PlainBook;
 use rights::Entry;
 use rights::Privilege;
 use rights::Right;
@@ -120,6 +119,6 @@ pub extern "C" fn cells_run(parts: u32) -> u32 {
 }
 SOURCE
 cd "$work"
-${RT:-rt} staticlib books_bench
-rustc -O -C target-cpu=x86-64 --edition 2024 -o books "$here/bench/books/main.rs" -L "$work/target/staticlib" -l static=books_bench
+(cd crates/books_bench && ${RT:-rt} lib)
+rustc -O -C target-cpu=x86-64 --edition 2024 -o books "$here/bench/books/main.rs" -L "$work/crates/books_bench/out" -l static=books_bench
 ./books

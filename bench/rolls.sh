@@ -6,19 +6,16 @@ here=$(cd "$(dirname "$0")/.." && pwd)
 work=$(mktemp -d)
 trap 'rm -rf "$work"' EXIT
 mkdir -p "$work/crates/rolls_bench/src" "$work/crates/rolls_bench/specs" "$work/crates/rolls_bench/proofs"
-cp -r "$here/crates/rights" "$here/crates/roll" "$work/crates/"
-rm -rf "$work/crates/rights/must-fail" "$work/crates/roll/must-fail"
+(cd "$here/crates" && tar --exclude=out --exclude=must-fail -cf - rights roll) | tar -xf - -C "$work/crates"
 touch "$work/crates/rolls_bench/specs/Lib.antt" "$work/crates/rolls_bench/proofs/Lib.antt"
-printf 'rights:\nroll: rights\nrolls_bench: rights roll\n' > "$work/crates.txt"
+printf 'rights:\nroll: rights\nrolls_bench staticlib: rights roll\n' > "$work/crates.txt"
 cat > "$work/crates/rolls_bench/src/lib.rt" <<'SOURCE'
 // Puts 2,048 pairs, asks 65,536 questions and takes all pairs, on either roll.
+#![tactic(auto)]
+
 use rights::Pair;
 use roll::PairRoll;
-use roll::PairRollChanges;
-use roll::PairRollTells;
 use roll::ReachRoll;
-use roll::ReachRollChanges;
-use roll::ReachRollTells;
 use roll::RollMut;
 
 const NONE: Pair = Pair {
@@ -99,6 +96,6 @@ pub extern "C" fn reach_run(parts: u32) -> u32 {
 }
 SOURCE
 cd "$work"
-${RT:-rt} staticlib rolls_bench
-rustc -O -C target-cpu=x86-64 --edition 2024 -o rolls "$here/bench/rolls/main.rs" -L "$work/target/staticlib" -l static=rolls_bench
+(cd crates/rolls_bench && ${RT:-rt} lib)
+rustc -O -C target-cpu=x86-64 --edition 2024 -o rolls "$here/bench/rolls/main.rs" -L "$work/crates/rolls_bench/out" -l static=rolls_bench
 ./rolls

@@ -1,10 +1,10 @@
 #!/usr/bin/env bash
 # The time of marking a sheet of 32,768 bytes, against `cat` of the same bytes.
-# Build the program first: rt check sheet. It prints both times of 200 runs and their ratio.
+# Build the program first: (cd crates/sheet && rt run < /dev/null). It prints both times of 200 runs and their ratio.
 set -eu
 cd "$(dirname "$0")/.."
-program=target/bin/sheet
-[ -x "$program" ] || { echo "build it first: rt check sheet" >&2; exit 1; }
+program=crates/sheet/out/sheet
+[ -x "$program" ] || { echo "build it first: (cd crates/sheet && rt run < /dev/null)" >&2; exit 1; }
 sheet=crates/sheet_cases/data/longest.sheet
 runs=200
 

@@ -1,7 +1,7 @@
 #!/usr/bin/env bash
 # Two slips in a host's source that must not compile: a word of an open sitting before the opening,
 # and one after the closing. Each is put into a copy of the host's program, and the compiler must
-# refuse it because that state has no such call. Prove the repository first: rt check host.
+# refuse it because that state has no such call. Prove the host first: (cd crates/host && rt check).
 set -u
 cd "$(dirname "$0")/.."
 refused=0
@@ -10,7 +10,7 @@ refused=0
 slip() {
     local copy
     copy=$(mktemp -d)
-    cp -r crates crates.txt target "$copy"
+    tar --exclude=out -cf - crates crates.txt | tar -xf - -C "$copy"
     python3 - "$copy/crates/host/src/main.rt" "$2" "$3" <<'P'
 import sys
 path, old, new = sys.argv[1:]
@@ -18,7 +18,7 @@ text = open(path).read()
 assert text.count(old) == 1, old
 open(path, "w").write(text.replace(old, new))
 P
-    if (cd "$copy" && rt dev host 2>&1) | grep -q "$4"; then
+    if (cd "$copy/crates/host" && rt check 2>&1) | grep -q "$4"; then
         echo "$1: refused by the compiler"
         refused=$((refused + 1))
     else
