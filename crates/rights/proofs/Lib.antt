@@ -7,6 +7,7 @@ pub mod Clash
 pub mod Contrasts
 pub mod Cover
 pub mod Deciding
+pub mod Derived
 pub mod Grounds
 pub mod Growing
 pub mod Holding

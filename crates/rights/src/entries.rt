@@ -2,7 +2,7 @@
 use crate::vocabulary::Right;
 
 // A right on a table for a subject, granted by a person.
-#[derive(Clone, Copy, PartialEq, Eq)]
+#[derive(Clone, Copy, PartialEq, Eq, PartialOrd, Ord, Debug)]
 pub struct Entry {
     pub subject: u8,
     pub table: u8,
@@ -11,7 +11,7 @@ pub struct Entry {
 }
 
 // A person or group that is a direct member of a group.
-#[derive(Clone, Copy, PartialEq, Eq)]
+#[derive(Clone, Copy, PartialEq, Eq, PartialOrd, Ord, Debug)]
 pub struct Pair {
     pub member: u8,
     pub group: u8,
