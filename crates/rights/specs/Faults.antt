@@ -1,9 +1,18 @@
--- The number and the layer of each refusal.
+-- The number and the layer of each refusal, and what a refused list is to a book and to a roll.
 use Rattle.std.specs.Prelude.{ℕ}
 use Rattle.rights.specs.declared.faults.BookFault.{BookFault}
 use Rattle.rights.specs.declared.faults.RollFault.{RollFault}
 use Rattle.rights.specs.declared.faults.RegisterFault.{RegisterFault}
 use Rattle.rights.specs.declared.faults.SheetFault.{SheetFault}
+use Rattle.rights.specs.declared.faults.RoomFault.{RoomFault}
+
+abbrev pub book_fault_of : RoomFault → BookFault
+book_fault_of RoomFault.ShortList = BookFault.ShortList
+book_fault_of RoomFault.BadNumber = BookFault.BadNumber
+
+abbrev pub roll_fault_of : RoomFault → RollFault
+roll_fault_of RoomFault.ShortList = RollFault.ShortList
+roll_fault_of RoomFault.BadNumber = RollFault.BadNumber
 
 abbrev pub book_number : BookFault → ℕ
 book_number BookFault.ShortList = 2

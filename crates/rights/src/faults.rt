@@ -2,9 +2,16 @@
 ghost use Rattle.std.specs.Prelude.{◌≡◌};
 ghost use Rattle.rights.specs.declared.faults.RegisterFault.TheVariants.{Book, Roll};
 ghost use Rattle.rights.specs.declared.faults.SheetFault.TheVariants.{Register};
-ghost use Rattle.rights.specs.Faults.{book_number, roll_number, register_number, register_layer, number as sheet_number, layer as sheet_layer};
+ghost use Rattle.rights.specs.Faults.{book_fault_of, roll_fault_of, book_number, roll_number, register_number, register_layer, number as sheet_number, layer as sheet_layer};
 
-// What a book refuses.
+/// What a list that is lent to a book or a roll is refused for, before anything is made over it.
+#[derive(Clone, Copy, PartialEq, Eq, Debug)]
+pub enum RoomFault {
+    ShortList,
+    BadNumber,
+}
+
+/// What a book refuses.
 #[derive(Clone, Copy, PartialEq, Eq, Debug)]
 pub enum BookFault {
     ShortList,
@@ -14,7 +21,7 @@ pub enum BookFault {
     Full,
 }
 
-// What a roll refuses.
+/// What a roll refuses.
 #[derive(Clone, Copy, PartialEq, Eq, Debug)]
 pub enum RollFault {
     ShortList,
@@ -25,7 +32,7 @@ pub enum RollFault {
     Full,
 }
 
-// What the register refuses, with the faults of its book and its roll.
+/// What the register refuses, with the faults of its book and its roll.
 #[derive(Clone, Copy, PartialEq, Eq, Debug)]
 pub enum RegisterFault {
     ShortSlate,
@@ -45,7 +52,7 @@ pub enum RegisterFault {
     Roll(RollFault),
 }
 
-// What a sheet's line is refused for, with the faults of the register.
+/// What a sheet's line is refused for, with the faults of the register.
 #[derive(Clone, Copy, PartialEq, Eq, Debug)]
 pub enum SheetFault {
     Unreadable,
@@ -54,6 +61,7 @@ pub enum SheetFault {
 }
 
 impl BookFault {
+    /// The refusal's number.
     pub fn number(&self) -> u8
         ensures { result ≡ book_number self.now }
     {
@@ -68,6 +76,7 @@ impl BookFault {
 }
 
 impl RollFault {
+    /// The refusal's number.
     pub fn number(&self) -> u8
         ensures { result ≡ roll_number self.now }
     {
@@ -83,6 +92,7 @@ impl RollFault {
 }
 
 impl RegisterFault {
+    /// The refusal's number.
     pub fn number(&self) -> u8
         ensures { result ≡ register_number self.now }
     {
@@ -105,7 +115,7 @@ impl RegisterFault {
         }
     }
 
-    // The layer that refused: 2 register, 3 book, 4 roll.
+    /// The layer that refused: 2 register, 3 book, 4 roll.
     pub fn layer(&self) -> u8
         ensures { result ≡ register_layer self.now }
     {
@@ -118,7 +128,7 @@ impl RegisterFault {
 }
 
 impl SheetFault {
-    // The refusal's number, 1 to 18.
+    /// The refusal's number, 1 to 18.
     pub fn number(&self) -> u8
         ensures { result ≡ sheet_number self.now }
     {
@@ -129,7 +139,7 @@ impl SheetFault {
         }
     }
 
-    // The layer that refused: 1 sheet, 2 register, 3 book, 4 roll.
+    /// The layer that refused: 1 sheet, 2 register, 3 book, 4 roll.
     pub fn layer(&self) -> u8
         ensures { result ≡ sheet_layer self.now }
     {
@@ -140,7 +150,30 @@ impl SheetFault {
     }
 }
 
-// A fault passes up whole, by `?`.
+// A fault passes up whole, by `?`. These impls are written out for `from_gives`, which a clause
+// names and which no derive gives.
+impl From<RoomFault> for BookFault {
+    ghost from_gives = { λ f r. r ≡ book_fault_of f };
+
+    fn from(fault: RoomFault) -> BookFault {
+        match fault {
+            RoomFault::ShortList => BookFault::ShortList,
+            RoomFault::BadNumber => BookFault::BadNumber,
+        }
+    }
+}
+
+impl From<RoomFault> for RollFault {
+    ghost from_gives = { λ f r. r ≡ roll_fault_of f };
+
+    fn from(fault: RoomFault) -> RollFault {
+        match fault {
+            RoomFault::ShortList => RollFault::ShortList,
+            RoomFault::BadNumber => RollFault::BadNumber,
+        }
+    }
+}
+
 impl From<BookFault> for RegisterFault {
     ghost from_gives = { λ f r. r ≡ Book f };
 
