@@ -3,7 +3,8 @@ ghost use Rattle.std.specs.Prelude.{◌≤◌};
 
 use crate::faults::SheetFault;
 
-// The tables that a view names, as they were written: the first `count` of the list.
+/// The tables that a view names, as they were written: the first `count` of the list.
+// An array with a count: a command is copied, and is read without a heap.
 #[derive(Clone, Copy)]
 pub struct Named {
     pub count: usize,
@@ -11,6 +12,7 @@ pub struct Named {
     ghost few: { count ≤ 14 },
 }
 
+/// A command, with its numbers as they came, in range or not.
 #[derive(Clone, Copy)]
 pub enum Command {
     User {
@@ -84,8 +86,8 @@ pub enum Command {
     },
 }
 
-// Why a question was answered so: 0 no rule gives it, 1 a strong entry, 2 weak entries, 3 the
-// tables that the view names.
+/// Why a question was answered so: 0 no rule gives it, 1 a strong entry, 2 weak entries, 3 the
+/// tables that the view names.
 #[derive(Clone, Copy, PartialEq, Eq, Debug)]
 pub enum Ground {
     Nothing,
@@ -94,7 +96,7 @@ pub enum Ground {
     Named,
 }
 
-// What a line is answered by.
+/// What a line is answered by.
 #[derive(Clone, Copy, PartialEq, Eq, Debug)]
 pub enum Answer {
     Done,
@@ -104,7 +106,7 @@ pub enum Answer {
     Refused(SheetFault),
 }
 
-// The states of a sitting.
+/// The states of a sitting.
 #[derive(Clone, Copy, PartialEq, Eq)]
 pub enum State {
     SettingUp,
