@@ -43,7 +43,7 @@ impl Catalogue {
         Ok(())
     }
 
-    // Whether i may make table t, as far as base tables and views are refused alike; i as the owner.
+    // Gives i as the owner of a new table t, or what base tables and views are refused alike.
     fn may_make(&self, i: u16, t: u16, names: &[u16]) -> Result<u8, RegisterFault>
         ensures verdict { First
             (making_checks (subjects_in self.now) (tables_in self.now) i t names.now)
@@ -109,11 +109,7 @@ impl Catalogue {
         ensures value { result ≡ level_over self.now.tables names.now }
         ensures low { result ≤ 8 }
     {
-        let mut level: u8 = 0;
-        for d in names {
-            level = level.max(self.level_at(*d) + 1);
-        }
-        level
+        names.iter().map(|d| self.level_at(*d) + 1).max().unwrap_or(0)
     }
 
     // The level of table t, 0 where none stands.
