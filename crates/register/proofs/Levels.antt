@@ -1,10 +1,10 @@
 -- The levels that are written down are the levels of the rules, and the tests of names are the rules' conditions.
 -- Assumes nothing.
-use Rattle.std.proofs.Common.{◌≡◌, ℕ, zero, suc, ◌+◌, ◌<◌, ◌≤◌, true, ◌&&◌, ltb, List, [], ◌∷◌, length, get_or, is_some, IfSome, Some, None, Option, sym, refl, ap, ◌∙◌, subst, inr, arith}
+use Rattle.std.proofs.Common.{◌≡◌, ℕ, zero, suc, ◌<◌, ◌≤◌, true, ltb, List, [], ◌∷◌, get_or, is_some, IfSome, Some, None, Option, sym, refl, ap, ◌∙◌, subst, inr, arith}
 use Rattle.std.specs.Prelude.{◌↔◌, IsTrue}
 use Rattle.std.specs.Option.{option_map}
 use Rattle.std.specs.List.{AllByRecursion}
-use Rattle.std.proofs.ByRecursion.{All-weaker}
+use Rattle.std.proofs.lemmas.List.Elements.{All-weaker, All-from_recursion, recursion_from_All}
 use Rattle.std.proofs.lemmas.Bool.{and_parts, and_from, ltb-true, lt-ltb}
 use Rattle.rights.specs.declared.records.Subject.{Subject}
 use Rattle.rights.specs.declared.records.TableRecord.{TableRecord}
@@ -74,7 +74,7 @@ above d [] e = tt
 above d (x ∷ ds) e =
     let both = and_parts (ltb d x) (rise (x ∷ ds)) e in
     let first = ltb-true d x both.0 in
-    (first, All-weaker (λ y. x < y) (λ y. d < y) (λ y later. omega arith) ds (above x ds both.1))
+    (first, recursion_from_All _ ds (All-weaker (λ y. x < y) (λ y. d < y) (λ y later. omega arith) ds (All-from_recursion _ ds (above x ds both.1))))
 
 rising_from : (ds : List ℕ) → rise ds ≡ true → Rising ◌<◌ ds
 rising_from [] e = tt

@@ -1,5 +1,5 @@
 -- The tests of lists that the code makes, as the recursions and the words that the contracts cite. Assumes nothing.
-use Rattle.std.proofs.Common.{◌≡◌, ℕ, zero, suc, ◌+◌, ◌<◌, ltb, Bool, true, false, ◌&&◌, List, [], ◌∷◌, length, get_or, sym, refl, ◌∙◌, arith, add-one}
+use Rattle.std.proofs.Common.{◌≡◌, ℕ, zero, suc, ◌+◌, ◌<◌, ltb, Bool, true, false, List, [], ◌∷◌, length, get_or, sym, refl, arith, add-one}
 use Rattle.std.specs.Prelude.{◌↔◌, IsTrue, MatchBool}
 use Rattle.std.specs.List.{AllByRecursion, AllWithin, AllAdjacentBelow, HoldsAt, IsAllAdjacentAnswer}
 use Rattle.std.proofs.lemmas.Bool.{and_from, and_left, and_right}

@@ -23,6 +23,7 @@ impl Catalogue {
     }
 
     /// Registers person n, with the creator's mark where c is 1.
+    #[tactic(auto, unfolding(rights::specs::Refusals::user_checks, rights::specs::Refusals::group_checks, rights::specs::Checks::First))]
     pub fn user(&mut self, n: u16, c: u16) -> Result<(), RegisterFault>
         ensures verdict { First (user_checks (subjects_in self.old) n c) (fault_of result) }
         ensures effect { MatchResult result
@@ -46,6 +47,7 @@ impl Catalogue {
     }
 
     // Puts a subject under n, where n is a subject's number that nobody has.
+    #[tactic(auto, unfolding(rights::specs::Refusals::group_checks, rights::specs::Checks::First))]
     fn enrol(&mut self, n: u16, subject: Subject) -> Result<(), RegisterFault>
         ensures verdict { First (group_checks (subjects_in self.old) n) (fault_of result) }
         ensures effect { MatchResult result

@@ -53,6 +53,8 @@ impl Catalogue {
     pub fn has_person(&self) -> bool
         ensures { IsTrue result ↔ ((n : ℕ) × IsPerson (subjects_in self.now) n) }
     {
-        self.subjects.iter().any(|subject| matches!(subject, Some(Subject::Person { .. })))
+        self.subjects
+            .iter()
+            .any(|subject| matches!(subject, Some(Subject::Person { .. })))
     }
 }

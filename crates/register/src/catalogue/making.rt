@@ -13,6 +13,7 @@ use rights::{RegisterFault, TableRecord};
 
 impl Catalogue {
     /// Makes base table t with owner i.
+    #[tactic(auto, unfolding(rights::specs::Refusals::view_checks, rights::specs::Refusals::base_checks, rights::specs::Checks::First))]
     pub fn base(&mut self, i: u16, t: u16) -> Result<(), RegisterFault>
         ensures verdict { First (base_checks (subjects_in self.old) (tables_in self.old) i t)
             (fault_of result) }
@@ -26,6 +27,7 @@ impl Catalogue {
     }
 
     /// Makes view t with owner i, naming these tables.
+    #[tactic(auto, unfolding(rights::specs::Refusals::view_checks, rights::specs::Refusals::WellMade, rights::specs::Checks::First))]
     pub fn view(&mut self, i: u16, t: u16, names: &[u16]) -> Result<(), RegisterFault>
         ensures verdict { First
             (view_checks (subjects_in self.old) (tables_in self.old) i t names.now)
@@ -44,6 +46,7 @@ impl Catalogue {
     }
 
     // Gives i as the owner of a new table t, or what base tables and views are refused alike.
+    #[tactic(auto, unfolding(rights::specs::Refusals::view_checks, rights::specs::Checks::First))]
     fn may_make(&self, i: u16, t: u16, names: &[u16]) -> Result<u8, RegisterFault>
         ensures verdict { First
             (making_checks (subjects_in self.now) (tables_in self.now) i t names.now)
@@ -91,6 +94,7 @@ impl Catalogue {
     }
 
     // Whether a view may name these tables, which all stand.
+    #[tactic(auto, unfolding(rights::specs::Refusals::WellMade))]
     fn well_made(&self, names: &[u16]) -> bool
         requires { AllByRecursion (Stands (tables_in self.now)) names.now }
         ensures { IsTrue result ↔ WellMade (tables_in self.now) names.now }
@@ -109,7 +113,11 @@ impl Catalogue {
         ensures value { result ≡ level_over self.now.tables names.now }
         ensures low { result ≤ 8 }
     {
-        names.iter().map(|d| self.level_at(*d) + 1).max().unwrap_or(0)
+        names
+            .iter()
+            .map(|d| self.level_at(*d) + 1)
+            .max()
+            .unwrap_or(0)
     }
 
     // The level of table t, 0 where none stands.

@@ -1,21 +1,26 @@
-use Rattle.std.proofs.Common.{sym, ap, ◌∙◌, rules, arith}
-use Rattle.std.proofs.lemmas.Bool.{iff_false}
-use Rattle.rights.specs.Refusals.{WellMade}
+use Rattle.std.proofs.Common.{ℕ, List, [], ◌∷◌, Ok, Err, Result, sym, ap, ◌∙◌, rules, arith}
+use Rattle.std.specs.Result.{IsErr}
+use Rattle.std.proofs.lemmas.Bool.{false≢true}
+use Rattle.rights.specs.declared.faults.RegisterFault.{RegisterFault}
+use Rattle.rights.specs.Checks.{First, fault_of, refuse}
+use Rattle.rights.specs.Refusals.{WellMade, view_checks}
+use Rattle.rights.specs.Subjects.{Subjects}
+use Rattle.rights.specs.Tables.{Tables}
+use Rattle.rights.proofs.Checks.{first_early}
+use Rattle.register.specs.Catalogue.{making_checks}
 use Rattle.register.specs.Rows.{stand, rise, level_over}
 use Rattle.register.proofs.Levels.{stand_from, rise_decides, over_only}
-use Rattle.register.proofs.Making.{view_refused, view_ill_made, view_made}
 use Rattle.register.proofs.Whole.{sound}
 use Rattle.register.proofs.catalogue.Catalogue.view.Goals as goal
 
+-- what is refused before the make-up is refused of a view
+refused : {T : Type 0} (subjects : Subjects) (tables : Tables) (i t : ℕ) (ds : List ℕ) (r : Result T RegisterFault) → IsErr r → First (making_checks subjects tables i t ds) (fault_of r) → First (view_checks subjects tables i t ds) (fault_of r)
+unfolding view_checks
+refused subjects tables i t ds (Ok x) e h = absurd (false≢true e)
+refused subjects tables i t ds (Err f) e h = first_early (making_checks subjects tables i t ds) (refuse RegisterFault.MakeUp (WellMade tables ds → ⊥) ∷ []) f h
+
 pub returns-in_err-owner-clause-verdict : goal.returns-in_err-owner-clause-verdict
-returns-in_err-owner-clause-verdict c = view_refused _ _ _ _ _ _ c.from_residual.ensures.0 (search rules)
-
-pub returns-then-not-well_made-clause-verdict : goal.returns-then-not-well_made-clause-verdict
-returns-then-not-well_made-clause-verdict c = view_ill_made _ _ _ _ _ c.in_ok-owner.ensures.verdict (iff_false c.well_made.ensures c.if-not-well_made.true)
-
-pub record_of-requires-clause-few : goal.record_of-requires-clause-few
-unfolding WellMade
-record_of-requires-clause-few c = (c.well_made.ensures.0 c.if-not-well_made.false).1
+returns-in_err-owner-clause-verdict c = refused _ _ _ _ _ _ c.from_residual.ensures.0 (search rules)
 
 pub add-requires : goal.add-requires
 unfolding WellMade
@@ -37,6 +42,3 @@ add-requires c =
       levelled = level ∙ sym (ap (level_over s.tables) same);
       low = omega (arith, level, over_only _ _ (sound s) made.3.1, made.3.2);
     }
-
-pub returns-clause-verdict : goal.returns-clause-verdict
-returns-clause-verdict c = view_made _ _ _ _ _ c.in_ok-owner.ensures.verdict (c.well_made.ensures.0 c.if-not-well_made.false)
