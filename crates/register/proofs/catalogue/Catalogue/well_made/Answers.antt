@@ -1,10 +1,14 @@
-use Rattle.std.proofs.Common.{◌≡◌, length, sym, arith}
-use Rattle.std.proofs.lemmas.Bool.{leb-true, le-leb, eqb-false}
+use Rattle.std.proofs.Common.{◌≡◌, length, sym, ◌∙◌, arith}
+use Rattle.std.proofs.lemmas.Bool.{false≢true, leb-true, le-leb, eqb-false}
 use Rattle.rights.specs.Refusals.{WellMade}
 use Rattle.register.specs.Rows.{level_over}
 use Rattle.register.proofs.Levels.{stand_from, level_over_is, over_only, rise_decides}
 use Rattle.register.proofs.Whole.{sound}
 use Rattle.register.proofs.catalogue.Catalogue.well_made.Goals as goal
+
+pub returns-then-not-rises : goal.returns-then-not-rises
+unfolding WellMade
+returns-then-not-rises c = (λ e. absurd (false≢true e), λ made. c.if-not-rises.ensures ∙ (rise_decides _).1 made.2)
 
 pub returns : goal.returns
 unfolding WellMade
