@@ -11,6 +11,7 @@ mod making;
 /// The subjects and the tables of a register, each under its number.
 #[derive(Drop)]
 pub struct Catalogue {
+    // tables of fixed length, since the library keeps no heap
     subjects: [Option<Subject>; 256],
     tables: [Option<TableRecord>; 128],
     ghost wide: { length subjects ≡ 256 },

@@ -84,17 +84,19 @@ fn prepare(mut sitting: SettingUp, catalogue: &mut Catalogue, command: Command) 
         result.1 (state_of result.0) (history_of catalogue.new) }
     ensures count { Tallied result.1 (setting_up_carried sitting) (carried_in result.0) }
 {
-    if let Command::Open = command {
-        return match sitting.open(catalogue) {
+    match command {
+        Command::Open => match sitting.open(catalogue) {
             Ok(open) => (Sitting::Open(open), Answer::Done),
             Err((back, fault)) => (
                 Sitting::SettingUp(back),
                 Answer::Refused(SheetFault::from(fault)),
             ),
-        };
+        },
+        word => {
+            let done = enrol(&mut sitting, catalogue, word);
+            (Sitting::SettingUp(sitting), answer_to(done))
+        }
     }
-    let done = enrol(&mut sitting, catalogue, command);
-    (Sitting::SettingUp(sitting), answer_to(done))
 }
 
 // A command that leaves the sitting in its setting up. The register's fault passes up whole.
@@ -123,14 +125,17 @@ fn work(mut sitting: Open, catalogue: &mut Catalogue, command: Command) -> (Sitt
         result.1 (state_of result.0) (history_of catalogue.new) }
     ensures count { Tallied result.1 (open_carried sitting) (carried_in result.0) }
 {
-    if let Command::Close = command {
-        return (Sitting::Closed(sitting.close()), Answer::Done);
+    match command {
+        Command::Close => (Sitting::Closed(sitting.close()), Answer::Done),
+        word => {
+            let done = make(&mut sitting, catalogue, word);
+            (Sitting::Open(sitting), answer_to(done))
+        }
     }
-    let done = make(&mut sitting, catalogue, command);
-    (Sitting::Open(sitting), answer_to(done))
 }
 
 // A command that leaves the sitting open. The register's fault passes up whole.
+// No twin of `enrol`: the states are two types, and each has words of its own.
 fn make(sitting: &mut Open, catalogue: &mut Catalogue, command: Command) -> Result<(), SheetFault>
     requires known { runs command ≡ true }
     requires stays { command ≢ Command.Close }

@@ -16,6 +16,7 @@ impl Catalogue {
         ensures subjects { subjects_in result ≡ no_subjects }
         ensures tables { tables_in result ≡ no_tables }
     {
+        // of fixed length, since the library keeps no heap
         Catalogue {
             subjects: [None; 256],
             tables: [None; 128],

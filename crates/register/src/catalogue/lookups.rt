@@ -1,5 +1,5 @@
 // What the catalogue tells of a number. A number out of range has nothing under it.
-ghost use Rattle.std.specs.Prelude.{◌≡◌, ◌≤◌, ◌↔◌, ℕ, IfSome, IsTrue};
+ghost use Rattle.std.specs.Prelude.{◌≡◌, ◌≤◌, ◌↔◌, ℕ, IfSome, IsTrue, None, slice_index_or};
 ghost use Rattle.std.specs.Option.{option_map};
 ghost use Rattle.register.specs.Catalogue.{subjects_in, tables_in, record_at};
 ghost use Rattle.register.specs.Rows.{table_of, BlankPast};
@@ -14,7 +14,7 @@ impl Catalogue {
     pub fn subject(&self, n: u16) -> Option<Subject>
         ensures { result ≡ subjects_in self.now n }
     {
-        self.subjects.get(usize::from(n)).copied().flatten()
+        entry_at(&self.subjects, n)
     }
 
     /// What stands under t.
@@ -25,7 +25,7 @@ impl Catalogue {
         ensures few { IfSome result (λ x. x.count ≤ 8) }
         ensures blank { IfSome result (λ x. BlankPast x) }
     {
-        self.tables.get(usize::from(t)).copied().flatten()
+        entry_at(&self.tables, t)
     }
 
     /// Whether n is a person.
@@ -39,7 +39,7 @@ impl Catalogue {
     pub fn is_creator(&self, n: u16) -> bool
         ensures { IsTrue result ↔ IsCreator (subjects_in self.now) n }
     {
-        matches!(self.subject(n), Some(Subject::Person { creator: true }))
+        self.subject(n) == Some(Subject::Person { creator: true })
     }
 
     /// Whether a table stands under t.
@@ -57,4 +57,11 @@ impl Catalogue {
             .iter()
             .any(|subject| matches!(subject, Some(Subject::Person { .. })))
     }
+}
+
+// What stands in row n of a table.
+fn entry_at<T: Copy>(rows: &[Option<T>], n: u16) -> Option<T>
+    ensures { result ≡ slice_index_or rows.now n None }
+{
+    rows.get(usize::from(n)).copied().flatten()
 }

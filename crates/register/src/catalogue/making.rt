@@ -1,4 +1,4 @@
-// Making base tables and views.
+// Making base tables and views. Issuer and table stay two plain numbers, as a command carries them.
 ghost use Rattle.std.specs.Prelude.{◌≡◌, ◌≤◌, ◌↔◌, true, [], length, IsTrue, IfOk, OnOk, MatchResult};
 ghost use Rattle.std.specs.List.{AllByRecursion};
 ghost use Rattle.register.specs.Catalogue.{subjects_in, tables_in, record_at, making_checks, Allowed, Fitting, Tabled};
@@ -137,6 +137,7 @@ impl Catalogue {
     }
 }
 
+// No twin of `all_stand`: what they have in common is `all`.
 fn all_tables(names: &[u16]) -> bool
     ensures { IsTrue result ↔ AllByRecursion TableNumber names.now }
 {
@@ -159,6 +160,7 @@ fn record_of(owner: u8, level: u8, names: &[u16]) -> TableRecord
     ensures owner { result.owner ≡ owner }
     ensures level { result.level ≡ level }
 {
+    // a record is Copy, so its list is an array
     let mut list = [0; 8];
     for (k, d) in names.iter().enumerate() {
         list[k] = u8::try_from(*d).unwrap();
