@@ -66,26 +66,35 @@ impl SettingUp {
         }
     }
 
-    /// Registers person n, with the creator's mark where c is 1.
-    pub fn user(&mut self, catalogue: &mut Catalogue, n: u16, c: u16) -> Result<(), RegisterFault>
-        ensures verdict { First (user_checks (subjects_in catalogue.old) n c) (fault_of result) }
+    /// Registers person `number`, with the creator's mark where `mark` is 1.
+    pub fn user(
+        &mut self,
+        catalogue: &mut Catalogue,
+        number: u16,
+        mark: u16,
+    ) -> Result<(), RegisterFault>
+        ensures verdict { First
+            (user_checks (subjects_in catalogue.old) number mark)
+            (fault_of result) }
         ensures effect { MatchResult result
-            (λ _. Enrolled n (Subject.Person (mark_of c)) catalogue.old catalogue.new)
+            (λ _. Enrolled number (Subject.Person (mark_of mark)) catalogue.old catalogue.new)
             (λ _. catalogue.new ≡ catalogue.old) }
         ensures count { Counted result (setting_up_carried self.old) (setting_up_carried self.new) }
     {
-        self.tally.note(catalogue.user(n, c))
+        self.tally.note(catalogue.user(number, mark))
     }
 
-    /// Registers group n.
-    pub fn group(&mut self, catalogue: &mut Catalogue, n: u16) -> Result<(), RegisterFault>
-        ensures verdict { First (group_checks (subjects_in catalogue.old) n) (fault_of result) }
+    /// Registers group `number`.
+    pub fn group(&mut self, catalogue: &mut Catalogue, number: u16) -> Result<(), RegisterFault>
+        ensures verdict { First
+            (group_checks (subjects_in catalogue.old) number)
+            (fault_of result) }
         ensures effect { MatchResult result
-            (λ _. Enrolled n Subject.Group catalogue.old catalogue.new)
+            (λ _. Enrolled number Subject.Group catalogue.old catalogue.new)
             (λ _. catalogue.new ≡ catalogue.old) }
         ensures count { Counted result (setting_up_carried self.old) (setting_up_carried self.new) }
     {
-        self.tally.note(catalogue.group(n))
+        self.tally.note(catalogue.group(number))
     }
 
     /// Opens the sitting, or gives it back with the refusal: without a person it cannot be opened.
@@ -105,36 +114,43 @@ impl SettingUp {
 }
 
 impl Open {
-    /// Makes base table t with owner i.
-    pub fn base(&mut self, catalogue: &mut Catalogue, i: u16, t: u16) -> Result<(), RegisterFault>
+    /// Makes base table `table` with owner `issuer`.
+    pub fn base(
+        &mut self,
+        catalogue: &mut Catalogue,
+        issuer: u16,
+        table: u16,
+    ) -> Result<(), RegisterFault>
         ensures verdict { First
-            (base_checks (subjects_in catalogue.old) (tables_in catalogue.old) i t)
+            (base_checks (subjects_in catalogue.old) (tables_in catalogue.old) issuer table)
             (fault_of result) }
         ensures effect { MatchResult result
-            (λ _. Tabled t (record { owner = i; names = [] }) catalogue.old catalogue.new)
+            (λ _. Tabled table (record { owner = issuer; names = [] }) catalogue.old catalogue.new)
             (λ _. catalogue.new ≡ catalogue.old) }
         ensures count { Counted result (open_carried self.old) (open_carried self.new) }
     {
-        self.tally.note(catalogue.base(i, t))
+        self.tally.note(catalogue.base(issuer, table))
     }
 
-    /// Makes view t with owner i, naming these tables.
+    /// Makes view `table` with owner `issuer`, naming these tables.
     pub fn view(
         &mut self,
         catalogue: &mut Catalogue,
-        i: u16,
-        t: u16,
+        issuer: u16,
+        table: u16,
         names: &[u16],
     ) -> Result<(), RegisterFault>
         ensures verdict { First
-            (view_checks (subjects_in catalogue.old) (tables_in catalogue.old) i t names.now)
+            (view_checks (subjects_in catalogue.old) (tables_in catalogue.old)
+            issuer table names.now)
             (fault_of result) }
         ensures effect { MatchResult result
-            (λ _. Tabled t (record { owner = i; names = names.now }) catalogue.old catalogue.new)
+            (λ _. Tabled table (record { owner = issuer; names = names.now })
+            catalogue.old catalogue.new)
             (λ _. catalogue.new ≡ catalogue.old) }
         ensures count { Counted result (open_carried self.old) (open_carried self.new) }
     {
-        self.tally.note(catalogue.view(i, t, names))
+        self.tally.note(catalogue.view(issuer, table, names))
     }
 
     /// Closes the sitting.

@@ -23,45 +23,45 @@ impl Catalogue {
         }
     }
 
-    /// Registers person n, with the creator's mark where c is 1.
+    /// Registers person `number`, with the creator's mark where `mark` is 1.
     #[tactic(auto, unfolding(rights::specs::Refusals::user_checks, rights::specs::Refusals::group_checks, rights::specs::Checks::First))]
-    pub fn user(&mut self, n: u16, c: u16) -> Result<(), RegisterFault>
-        ensures verdict { First (user_checks (subjects_in self.old) n c) (fault_of result) }
+    pub fn user(&mut self, number: u16, mark: u16) -> Result<(), RegisterFault>
+        ensures verdict { First (user_checks (subjects_in self.old) number mark) (fault_of result) }
         ensures effect { MatchResult result
-            (λ _. Enrolled n (Subject.Person (mark_of c)) self.old self.new)
+            (λ _. Enrolled number (Subject.Person (mark_of mark)) self.old self.new)
             (λ _. self.new ≡ self.old) }
     {
-        if c > 1 {
+        if mark > 1 {
             return Err(RegisterFault::BadNumber);
         }
-        self.enrol(n, Subject::Person { creator: c == 1 })
+        self.enrol(number, Subject::Person { creator: mark == 1 })
     }
 
-    /// Registers group n.
-    pub fn group(&mut self, n: u16) -> Result<(), RegisterFault>
-        ensures verdict { First (group_checks (subjects_in self.old) n) (fault_of result) }
+    /// Registers group `number`.
+    pub fn group(&mut self, number: u16) -> Result<(), RegisterFault>
+        ensures verdict { First (group_checks (subjects_in self.old) number) (fault_of result) }
         ensures effect { MatchResult result
-            (λ _. Enrolled n Subject.Group self.old self.new)
+            (λ _. Enrolled number Subject.Group self.old self.new)
             (λ _. self.new ≡ self.old) }
     {
-        self.enrol(n, Subject::Group)
+        self.enrol(number, Subject::Group)
     }
 
-    // Puts a subject under n, where n is a subject's number that nobody has.
+    // Puts a subject under a number, if it is a subject's number that nobody has.
     #[tactic(auto, unfolding(rights::specs::Refusals::group_checks, rights::specs::Checks::First))]
-    fn enrol(&mut self, n: u16, subject: Subject) -> Result<(), RegisterFault>
-        ensures verdict { First (group_checks (subjects_in self.old) n) (fault_of result) }
+    fn enrol(&mut self, number: u16, subject: Subject) -> Result<(), RegisterFault>
+        ensures verdict { First (group_checks (subjects_in self.old) number) (fault_of result) }
         ensures effect { MatchResult result
-            (λ _. Enrolled n subject self.old self.new)
+            (λ _. Enrolled number subject self.old self.new)
             (λ _. self.new ≡ self.old) }
     {
-        if n == 0 || n > 255 {
+        if number == 0 || number > 255 {
             return Err(RegisterFault::BadNumber);
         }
-        if self.subject(n).is_some() {
+        if self.subject(number).is_some() {
             return Err(RegisterFault::Taken);
         }
-        self.subjects[usize::from(n)] = Some(subject);
+        self.subjects[usize::from(number)] = Some(subject);
         Ok(())
     }
 }

@@ -10,43 +10,43 @@ use crate::catalogue::Catalogue;
 use rights::{Subject, TableRecord};
 
 impl Catalogue {
-    /// What is registered under n.
-    pub fn subject(&self, n: u16) -> Option<Subject>
-        ensures { result ≡ subjects_in self.now n }
+    /// What is registered under `number`.
+    pub fn subject(&self, number: u16) -> Option<Subject>
+        ensures { result ≡ subjects_in self.now number }
     {
-        entry_at(&self.subjects, n)
+        entry_at(&self.subjects, number)
     }
 
-    /// What stands under t.
-    pub fn table(&self, t: u16) -> Option<TableRecord>
-        ensures row { result ≡ record_at self.now t }
-        ensures value { option_map table_of result ≡ tables_in self.now t }
-        ensures level { IfSome result (λ x. Level (tables_in self.now) t x.level) }
+    /// What stands under `number`.
+    pub fn table(&self, number: u16) -> Option<TableRecord>
+        ensures row { result ≡ record_at self.now number }
+        ensures value { option_map table_of result ≡ tables_in self.now number }
+        ensures level { IfSome result (λ x. Level (tables_in self.now) number x.level) }
         ensures few { IfSome result (λ x. x.count ≤ 8) }
         ensures blank { IfSome result (λ x. BlankPast x) }
     {
-        entry_at(&self.tables, t)
+        entry_at(&self.tables, number)
     }
 
-    /// Whether n is a person.
-    pub fn is_person(&self, n: u16) -> bool
-        ensures { IsTrue result ↔ IsPerson (subjects_in self.now) n }
+    /// Whether `number` is a person.
+    pub fn is_person(&self, number: u16) -> bool
+        ensures { IsTrue result ↔ IsPerson (subjects_in self.now) number }
     {
-        matches!(self.subject(n), Some(Subject::Person { .. }))
+        matches!(self.subject(number), Some(Subject::Person { .. }))
     }
 
-    /// Whether n is a person with the creator's mark.
-    pub fn is_creator(&self, n: u16) -> bool
-        ensures { IsTrue result ↔ IsCreator (subjects_in self.now) n }
+    /// Whether `number` is a person with the creator's mark.
+    pub fn is_creator(&self, number: u16) -> bool
+        ensures { IsTrue result ↔ IsCreator (subjects_in self.now) number }
     {
-        self.subject(n) == Some(Subject::Person { creator: true })
+        self.subject(number) == Some(Subject::Person { creator: true })
     }
 
-    /// Whether a table stands under t.
-    pub fn stands(&self, t: u16) -> bool
-        ensures { IsTrue result ↔ Stands (tables_in self.now) t }
+    /// Whether a table stands under `number`.
+    pub fn stands(&self, number: u16) -> bool
+        ensures { IsTrue result ↔ Stands (tables_in self.now) number }
     {
-        self.table(t).is_some()
+        self.table(number).is_some()
     }
 
     /// Whether anybody is registered as a person.

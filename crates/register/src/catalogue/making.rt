@@ -12,79 +12,80 @@ use crate::catalogue::Catalogue;
 use rights::{RegisterFault, TableRecord};
 
 impl Catalogue {
-    /// Makes base table t with owner i.
+    /// Makes base table `table` with owner `issuer`.
     #[tactic(auto, unfolding(rights::specs::Refusals::view_checks, rights::specs::Refusals::base_checks, rights::specs::Checks::First))]
-    pub fn base(&mut self, i: u16, t: u16) -> Result<(), RegisterFault>
-        ensures verdict { First (base_checks (subjects_in self.old) (tables_in self.old) i t)
+    pub fn base(&mut self, issuer: u16, table: u16) -> Result<(), RegisterFault>
+        ensures verdict { First
+            (base_checks (subjects_in self.old) (tables_in self.old) issuer table)
             (fault_of result) }
         ensures effect { MatchResult result
-            (λ _. Tabled t (record { owner = i; names = [] }) self.old self.new)
+            (λ _. Tabled table (record { owner = issuer; names = [] }) self.old self.new)
             (λ _. self.new ≡ self.old) }
     {
-        let owner = self.may_make(i, t, &[])?;
-        self.add(t, record_of(owner, 0, &[]));
+        let owner = self.may_make(issuer, table, &[])?;
+        self.add(table, record_of(owner, 0, &[]));
         Ok(())
     }
 
-    /// Makes view t with owner i, naming these tables.
+    /// Makes view `table` with owner `issuer`, naming these tables.
     #[tactic(auto, unfolding(rights::specs::Refusals::view_checks, rights::specs::Refusals::WellMade, rights::specs::Checks::First))]
-    pub fn view(&mut self, i: u16, t: u16, names: &[u16]) -> Result<(), RegisterFault>
+    pub fn view(&mut self, issuer: u16, table: u16, names: &[u16]) -> Result<(), RegisterFault>
         ensures verdict { First
-            (view_checks (subjects_in self.old) (tables_in self.old) i t names.now)
+            (view_checks (subjects_in self.old) (tables_in self.old) issuer table names.now)
             (fault_of result) }
         ensures effect { MatchResult result
-            (λ _. Tabled t (record { owner = i; names = names.now }) self.old self.new)
+            (λ _. Tabled table (record { owner = issuer; names = names.now }) self.old self.new)
             (λ _. self.new ≡ self.old) }
     {
-        let owner = self.may_make(i, t, names)?;
+        let owner = self.may_make(issuer, table, names)?;
         if !self.well_made(names) {
             return Err(RegisterFault::MakeUp);
         }
         let level = self.level_over(names);
-        self.add(t, record_of(owner, level, names));
+        self.add(table, record_of(owner, level, names));
         Ok(())
     }
 
-    // Gives i as the owner of a new table t, or what base tables and views are refused alike.
+    // The issuer as a new table's owner, or what base tables and views are refused alike.
     #[tactic(auto, unfolding(rights::specs::Refusals::view_checks, rights::specs::Checks::First))]
-    fn may_make(&self, i: u16, t: u16, names: &[u16]) -> Result<u8, RegisterFault>
+    fn may_make(&self, issuer: u16, table: u16, names: &[u16]) -> Result<u8, RegisterFault>
         ensures verdict { First
-            (making_checks (subjects_in self.now) (tables_in self.now) i t names.now)
+            (making_checks (subjects_in self.now) (tables_in self.now) issuer table names.now)
             (fault_of result) }
-        ensures owner { IfOk result (λ x. x ≡ i) }
-        ensures allowed { OnOk result (Allowed i t names.now self.now) }
+        ensures owner { IfOk result (λ x. x ≡ issuer) }
+        ensures allowed { OnOk result (Allowed issuer table names.now self.now) }
     {
-        let owner = u8::try_from(i).map_err(|_| RegisterFault::BadNumber)?;
-        if t > 127 || !all_tables(names) {
+        let owner = u8::try_from(issuer).map_err(|_| RegisterFault::BadNumber)?;
+        if table > 127 || !all_tables(names) {
             return Err(RegisterFault::BadNumber);
         }
-        if self.is_strange(i) {
+        if self.is_strange(issuer) {
             return Err(RegisterFault::Stranger);
         }
         if !self.all_stand(names) {
             return Err(RegisterFault::NoTable);
         }
-        if self.lacks_mark(i) {
+        if self.lacks_mark(issuer) {
             return Err(RegisterFault::NotTheirs);
         }
-        if self.stands(t) {
+        if self.stands(table) {
             return Err(RegisterFault::Taken);
         }
         Ok(owner)
     }
 
     // An issuer other than the office who is no registered person.
-    fn is_strange(&self, i: u16) -> bool
-        ensures { IsTrue result ↔ StrangeIssuer (subjects_in self.now) i }
+    fn is_strange(&self, issuer: u16) -> bool
+        ensures { IsTrue result ↔ StrangeIssuer (subjects_in self.now) issuer }
     {
-        i != 0 && !self.is_person(i)
+        issuer != 0 && !self.is_person(issuer)
     }
 
     // An issuer who may make no table: the office, or whoever lacks the creator's mark.
-    fn lacks_mark(&self, i: u16) -> bool
-        ensures { IsTrue result ↔ NoMark (subjects_in self.now) i }
+    fn lacks_mark(&self, issuer: u16) -> bool
+        ensures { IsTrue result ↔ NoMark (subjects_in self.now) issuer }
     {
-        i == 0 || !self.is_creator(i)
+        issuer == 0 || !self.is_creator(issuer)
     }
 
     fn all_stand(&self, names: &[u16]) -> bool
@@ -120,12 +121,12 @@ impl Catalogue {
             .unwrap_or(0)
     }
 
-    // The level of table t, 0 where none stands.
-    fn level_at(&self, t: u16) -> u8
-        ensures value { result ≡ level_at (record_at self.now t) }
+    // The level of a table, 0 where none stands.
+    fn level_at(&self, number: u16) -> u8
+        ensures value { result ≡ level_at (record_at self.now number) }
         ensures low { result ≤ 7 }
     {
-        self.table(t).map_or(0, |table| table.level)
+        self.table(number).map_or(0, |table| table.level)
     }
 
     // Puts a table under a number where none stands.
