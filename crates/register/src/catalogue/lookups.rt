@@ -39,6 +39,7 @@ impl Catalogue {
     pub fn is_creator(&self, number: u16) -> bool
         ensures { IsTrue result ↔ IsCreator (subjects_in self.now) number }
     {
+        // no twin of `is_person`: one value, where that is a pattern of two
         self.subject(number) == Some(Subject::Person { creator: true })
     }
 

@@ -1,4 +1,4 @@
-// Making base tables and views. Issuer and table stay two plain numbers, as a command carries them.
+// Making base tables and views. Issuer and table stay plain numbers, as a command carries them.
 ghost use Rattle.std.specs.Prelude.{◌≡◌, ◌≤◌, ◌↔◌, true, [], length, IsTrue, IfOk, OnOk, MatchResult};
 ghost use Rattle.std.specs.List.{AllByRecursion};
 ghost use Rattle.register.specs.Catalogue.{subjects_in, tables_in, record_at, making_checks, Allowed, Fitting, Tabled};
