@@ -1,5 +1,6 @@
 // The commands of a sitting with their numbers as they came, and the answers.
-ghost use Rattle.std.specs.Prelude.{◌≤◌};
+ghost use Rattle.std.specs.Prelude.{◌≡◌, ◌≤◌};
+ghost use Rattle.rights.specs.Numbers.{ground_number};
 
 use crate::faults::SheetFault;
 
@@ -92,6 +93,20 @@ pub enum Ground {
     Strong,
     Weak,
     Named,
+}
+
+// The number that a ground is written with.
+impl From<Ground> for u32 {
+    ghost from_gives = { λ g r. r ≡ ground_number g };
+
+    fn from(ground: Ground) -> u32 {
+        match ground {
+            Ground::Nothing => 0,
+            Ground::Strong => 1,
+            Ground::Weak => 2,
+            Ground::Named => 3,
+        }
+    }
 }
 
 // What a line is answered by.
