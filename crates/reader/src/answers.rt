@@ -1,23 +1,12 @@
 // The writer of answers.
 ghost use Rattle.std.specs.Prelude.{◌≡◌, ◌+◌, ◌≤◌, ◌++◌, length, drop, IfOk, decimal};
-ghost use Rattle.rights.specs.Numbers.{ground_number};
 ghost use Rattle.reader.specs.Answers.{answer_text, answer_line, Put, Answered};
 
-use rights::{Answer, Ground, RegisterFault};
+use itoa::Buffer;
+use rights::{Answer, RegisterFault};
 
-// The shortest buffer that an answer is written to.
+/// The shortest buffer that an answer is written to.
 pub const SHORTEST_BUFFER: usize = 32;
-
-fn ground_number(ground: Ground) -> u32
-    ensures { result ≡ ground_number ground }
-{
-    match ground {
-        Ground::Nothing => 0,
-        Ground::Strong => 1,
-        Ground::Weak => 2,
-        Ground::Named => 3,
-    }
-}
 
 // Writes `text` from `at` on, and gives the place after it.
 fn put_text(buffer: &mut [u8], at: usize, text: &[u8]) -> usize
@@ -34,12 +23,7 @@ fn put_number(buffer: &mut [u8], at: usize, n: u32) -> usize
     requires { at + length (decimal n) ≤ length buffer.old }
     ensures { Put at (decimal n) buffer.old result buffer.new }
 {
-    let digit = [b'0' + (n % 10) as u8];
-    if n < 10 {
-        return put_text(buffer, at, &digit);
-    }
-    let last = put_number(buffer, at, n / 10);
-    put_text(buffer, last, &digit)
+    put_text(buffer, at, Buffer::new().format(n).as_bytes())
 }
 
 // Writes `text` and then the digits of `n` from `at` on, and gives the place after them.
@@ -60,8 +44,8 @@ fn put_answer(buffer: &mut [u8], at: usize, answer: &Answer) -> usize
     match answer {
         Answer::Done => put_text(buffer, at, b"ok"),
         Answer::Struck(count) => put_both(buffer, at, b"ok ", *count),
-        Answer::Yes(ground) => put_both(buffer, at, b"yes ", ground_number(*ground)),
-        Answer::No(ground) => put_both(buffer, at, b"no ", ground_number(*ground)),
+        Answer::Yes(ground) => put_both(buffer, at, b"yes ", u32::from(*ground)),
+        Answer::No(ground) => put_both(buffer, at, b"no ", u32::from(*ground)),
         Answer::Refused(fault) => {
             let next = put_both(buffer, at, b"refused ", u32::from(fault.number()));
             put_both(buffer, next, b" ", u32::from(fault.layer()))
@@ -82,8 +66,8 @@ fn put_line(buffer: &mut [u8], line: u32, answer: &Answer) -> usize
     put_text(buffer, at, b"\n")
 }
 
-// Writes the answer to a line at the front of the buffer, and gives its length. A short buffer is
-// refused and left as it is.
+/// Writes the answer to a line at the front of the buffer, and gives its length. A short buffer is
+/// refused and left as it is.
 pub fn write_answer(buffer: &mut [u8], line: u32, answer: &Answer) -> Result<usize, RegisterFault>
     ensures answered { Answered line answer.now buffer.old result buffer.new }
     ensures short { IfOk result (λ k. k ≤ 25) }

@@ -84,19 +84,16 @@ fn read(line: &Line<'_>) -> Option<Command>
     ensures { Exactly result (λ c. Plain c × (written c ≡ line.now.bytes.now)) }
 {
     let mut parts = line.parts();
-    let Some(first) = parts.next_part() else {
-        return None;
-    };
-    let word = first.word()?;
+    let word = parts.next_part()?.word()?;
     let rest = numbers(&mut parts)?;
-    command_of(word, rest.list())
+    command_of(word, &rest)
 }
 
-// The longest line that is read, without its end byte.
+/// The longest line that is read, without its end byte.
 pub const LONGEST_LINE: usize = 80;
 
 impl Line<'_> {
-    // The command that the line is, if it is one. No line over `LONGEST_LINE` bytes is.
+    /// The command that the line is, if it is one. No line over `LONGEST_LINE` bytes is.
     pub fn command(&self) -> Option<Command>
         ensures exactly { Exactly result (λ c. Plain c × (written c ≡ self.now.bytes.now)) }
         ensures long { 80 < length self.now.bytes.now → result ≡ None }

@@ -1,9 +1,10 @@
 // The numbers of a line.
 ghost use Rattle.std.specs.Prelude.{◌≡◌, ℕ, ◌≤◌, List, decimal, MatchOption};
 ghost use Rattle.reader.specs.Exactly.{Exactly};
-ghost use Rattle.reader.specs.Reading.{left, counted, Numbered};
+ghost use Rattle.reader.specs.Reading.{left, Numbered};
 
-use crate::shapes::{Numbers, Part, Parts};
+use crate::shapes::{Part, Parts};
+use arrayvec::ArrayVec;
 
 // The number that some digits are, if they are 1 to 3 without a leading zero.
 fn value_of(digits: &[u8]) -> Option<u16>
@@ -26,7 +27,7 @@ fn value_of(digits: &[u8]) -> Option<u16>
 }
 
 impl Part<'_> {
-    // The number that stands here, if one of 1 to 3 digits without a leading zero does.
+    /// The number that stands here, if one of 1 to 3 digits without a leading zero does.
     pub fn number(&self) -> Option<u16>
         ensures { Exactly result (λ n. (n ≤ 999) × (decimal n ≡ self.now.bytes.now)) }
     {
@@ -34,27 +35,14 @@ impl Part<'_> {
     }
 }
 
-impl Numbers {
-    pub(crate) fn list(&self) -> &[u16]
-        ensures { result.now ≡ counted self.now }
-    {
-        &self.values[0..self.count]
-    }
-}
-
 // Takes the parts that are left, if each is a number and they are not too many.
-pub(crate) fn numbers(parts: &mut Parts<'_>) -> Option<Numbers>
-    ensures { MatchOption result ((ns : List ℕ) → Numbered (left parts.old) ns → ⊥) (λ n. Numbered (left parts.old) (counted n)) }
+pub(crate) fn numbers(parts: &mut Parts<'_>) -> Option<ArrayVec<u16, 16>>
+    ensures { MatchOption result ((ns : List ℕ) → Numbered (left parts.old) ns → ⊥)
+        (λ n. Numbered (left parts.old) n.items) }
 {
-    let mut count = 0;
-    let mut values = [0; 16];
+    let mut numbers = ArrayVec::new();
     while let Some(part) = parts.next_part() {
-        let value = part.number()?;
-        if count == 16 {
-            return None;
-        }
-        values[count] = value;
-        count += 1;
+        numbers.try_push(part.number()?).ok()?;
     }
-    Some(Numbers { count, values })
+    Some(numbers)
 }

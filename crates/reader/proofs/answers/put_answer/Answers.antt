@@ -10,20 +10,20 @@ pub put_both-requires : goal.put_both-requires
 put_both-requires c = omega (arith, count_short c.in-Struck.count (omega arith))
 
 pub put_both-requires-in-Yes : goal.put_both-requires-in-Yes
-put_both-requires-in-Yes c = omega (arith, ap (λ n. length (decimal n)) c.ground_number.ensures, ground_short c.in-Yes.ground)
+put_both-requires-in-Yes c = omega (arith, ap (λ n. length (decimal n)) c.from.ensures, ground_short c.in-Yes.ground)
 
 pub put_both-requires-in-No : goal.put_both-requires-in-No
-put_both-requires-in-No c = omega (arith, ap (λ n. length (decimal n)) c.ground_number-in-No.ensures, ground_short c.in-No.ground)
+put_both-requires-in-No c = omega (arith, ap (λ n. length (decimal n)) c.from-in-No.ensures, ground_short c.in-No.ground)
 
 pub put_both-next-requires : goal.put_both-next-requires
 put_both-next-requires c =
-    let e = ap (λ n. length (decimal n)) (c.from.ensures ∙ c.number.ensures) in
+    let e = ap (λ n. length (decimal n)) (c.from-in-Refused.ensures ∙ c.number.ensures) in
     omega (arith, e, number_short c.in-Refused.fault)
 
 pub put_both-requires-in-Refused : goal.put_both-requires-in-Refused
 put_both-requires-in-Refused c =
-    let e = ap (λ n. length (decimal n)) (c.from.ensures ∙ c.number.ensures) in
-    let d = ap (λ n. length (decimal n)) (c.from-in-Refused.ensures ∙ c.layer.ensures) in
+    let e = ap (λ n. length (decimal n)) (c.from-in-Refused.ensures ∙ c.number.ensures) in
+    let d = ap (λ n. length (decimal n)) (c.from-in-Refused-2.ensures ∙ c.layer.ensures) in
     let short = number_short c.in-Refused.fault in
     omega (arith, e, d, layer_short c.in-Refused.fault, c.put_both-next.ensures.past, put_length c.put_both-next.ensures (omega arith))
 
@@ -35,21 +35,21 @@ returns-in-Struck c = record {
 
 pub returns-in-Yes : goal.returns-in-Yes
 returns-in-Yes c = record {
-  put = put_same (ap (λ n. codes "yes " ++ decimal n) c.ground_number.ensures ∙ sym (ap answer_text c.in-Yes.is)) c.put_both-in-Yes.ensures;
+  put = put_same (ap (λ n. codes "yes " ++ decimal n) c.from.ensures ∙ sym (ap answer_text c.in-Yes.is)) c.put_both-in-Yes.ensures;
   short = omega (arith, ap (λ a. length (answer_text a)) c.in-Yes.is, ground_short c.in-Yes.ground);
 }
 
 pub returns-in-No : goal.returns-in-No
 returns-in-No c = record {
-  put = put_same (ap (λ n. codes "no " ++ decimal n) c.ground_number-in-No.ensures ∙ sym (ap answer_text c.in-No.is)) c.put_both-in-No.ensures;
+  put = put_same (ap (λ n. codes "no " ++ decimal n) c.from-in-No.ensures ∙ sym (ap answer_text c.in-No.is)) c.put_both-in-No.ensures;
   short = omega (arith, ap (λ a. length (answer_text a)) c.in-No.is, ground_short c.in-No.ground);
 }
 
 pub returns-in-Refused : goal.returns-in-Refused
 returns-in-Refused c =
     let fault = c.in-Refused.fault in
-    let num = c.from.ensures ∙ c.number.ensures in
-    let lay = c.from-in-Refused.ensures ∙ c.layer.ensures in
+    let num = c.from-in-Refused.ensures ∙ c.number.ensures in
+    let lay = c.from-in-Refused-2.ensures ∙ c.layer.ensures in
     let e = ap (λ n. length (decimal n)) num in
     let d = ap (λ n. length (decimal n)) lay in
     let short = number_short fault in

@@ -4,7 +4,7 @@ use Rattle.reader.proofs.Series.{Sofar}
 use Rattle.reader.proofs.numbers.numbers.Given as goal
 
 abbrev pub invariant-loop-part : goal.invariant-loop-part
-invariant-loop-part l = Sofar (left l.initial.parts) l.count l.values (left l.parts)
+invariant-loop-part l = Sofar (left l.initial.parts) l.numbers.items (left l.parts)
 
 abbrev pub decreases-loop-part : goal.decreases-loop-part
 decreases-loop-part l = length (left l.parts)
