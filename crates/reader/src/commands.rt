@@ -85,7 +85,7 @@ fn read(line: &Line<'_>) -> Option<Command>
 {
     let mut parts = line.parts();
     let word = parts.next_part()?.word()?;
-    let rest = numbers(&mut parts)?;
+    let rest = numbers(parts)?;
     command_of(word, &rest)
 }
 

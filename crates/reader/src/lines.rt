@@ -1,6 +1,7 @@
 // The reader of a sheet, a line at a time.
 ghost use Rattle.std.specs.Prelude.{◌≡◌, ◌≤◌, ◌↔◌, length, MatchOption, IsTrue};
-ghost use Rattle.reader.specs.Reading.{Cut, Begun, Ended, Next};
+ghost use Rattle.std.specs.Iterator.{at_most};
+ghost use Rattle.reader.specs.Reading.{rest, Cut, Begun, Ended, Next};
 
 use crate::shapes::{Line, Reader};
 use memchr::memchr;
@@ -54,5 +55,18 @@ impl<'a> Reader<'a> {
             at,
             bytes: &self.bytes[at..end],
         })
+    }
+}
+
+/// The lines that are left, one after the other.
+impl<'a> Iterator for Reader<'a> {
+    type Item = Line<'a>;
+
+    ghost next_gives = { λ r o s. MatchOption o (Ended r s) (λ l. Next r l s) };
+
+    ghost remaining = { λ r. at_most (length (rest r)) };
+
+    fn next(&mut self) -> Option<Line<'a>> {
+        self.next_line()
     }
 }

@@ -36,12 +36,12 @@ impl Part<'_> {
 }
 
 // Takes the parts that are left, if each is a number and they are not too many.
-pub(crate) fn numbers(parts: &mut Parts<'_>) -> Option<ArrayVec<u16, 16>>
-    ensures { MatchOption result ((ns : List ℕ) → Numbered (left parts.old) ns → ⊥)
-        (λ n. Numbered (left parts.old) n.items) }
+pub(crate) fn numbers(parts: Parts<'_>) -> Option<ArrayVec<u16, 16>>
+    ensures { MatchOption result ((ns : List ℕ) → Numbered (left parts.entry) ns → ⊥)
+        (λ n. Numbered (left parts.entry) n.items) }
 {
     let mut numbers = ArrayVec::new();
-    while let Some(part) = parts.next_part() {
+    for part in parts {
         numbers.try_push(part.number()?).ok()?;
     }
     Some(numbers)

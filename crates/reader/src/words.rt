@@ -1,7 +1,8 @@
 // The words of a sheet, and the parts of a line one after the other.
-ghost use Rattle.std.specs.Prelude.{◌≡◌, MatchOption};
+ghost use Rattle.std.specs.Prelude.{◌≡◌, length, MatchOption};
+ghost use Rattle.std.specs.Iterator.{at_most};
 ghost use Rattle.reader.specs.Exactly.{Exactly};
-ghost use Rattle.reader.specs.Reading.{Opened, NoPart, NextPart};
+ghost use Rattle.reader.specs.Reading.{left, Opened, NoPart, NextPart};
 ghost use Rattle.reader.specs.Words.{text};
 
 use crate::lines::cut;
@@ -50,6 +51,19 @@ impl<'a> Parts<'a> {
             at,
             bytes: &self.line[at..end],
         })
+    }
+}
+
+/// The parts that are left, one after the other.
+impl<'a> Iterator for Parts<'a> {
+    type Item = Part<'a>;
+
+    ghost next_gives = { λ p o q. MatchOption o (NoPart p q) (λ x. NextPart p x q) };
+
+    ghost remaining = { λ p. at_most (length (left p)) };
+
+    fn next(&mut self) -> Option<Part<'a>> {
+        self.next_part()
     }
 }
 
