@@ -1,29 +1,17 @@
 // The numbers of a line.
-ghost use Rattle.std.specs.Prelude.{◌≡◌, ℕ, ◌≤◌, List, decimal, MatchOption};
+ghost use Rattle.std.specs.Prelude.{◌≡◌, ℕ, ◌≤◌, ◌↔◌, List, decimal, IsTrue, MatchOption};
 ghost use Rattle.reader.specs.Exactly.{Exactly};
 ghost use Rattle.reader.specs.Reading.{left, Numbered};
 
 use crate::shapes::{Part, Parts};
 use arrayvec::ArrayVec;
+use itoa::Buffer;
 
-// The number that some digits are, if they are 1 to 3 without a leading zero.
-fn value_of(digits: &[u8]) -> Option<u16>
-    ensures { Exactly result (λ n. (n ≤ 999) × (decimal n ≡ digits.now)) }
+// Whether the number has at most three digits, and these are they.
+fn is_written(number: u16, digits: &[u8]) -> bool
+    ensures { IsTrue result ↔ ((number ≤ 999) × (decimal number ≡ digits.now)) }
 {
-    if digits.is_empty() || digits.len() > 3 {
-        return None;
-    }
-    if digits[0] == b'0' && digits.len() > 1 {
-        return None;
-    }
-    let mut value = 0;
-    for digit in digits {
-        if !digit.is_ascii_digit() {
-            return None;
-        }
-        value = value * 10 + u16::from(*digit - b'0');
-    }
-    Some(value)
+    number <= 999 && Buffer::new().format(number).as_bytes() == digits
 }
 
 impl Part<'_> {
@@ -31,7 +19,8 @@ impl Part<'_> {
     pub fn number(&self) -> Option<u16>
         ensures { Exactly result (λ n. (n ≤ 999) × (decimal n ≡ self.now.bytes.now)) }
     {
-        value_of(self.bytes)
+        let number: u16 = str::from_utf8(self.bytes).ok()?.parse().ok()?;
+        is_written(number, self.bytes).then_some(number)
     }
 }
 
