@@ -144,11 +144,6 @@ abbrev pub Made : Word → List ℕ → Command → Type 0
 Made w ns c = (word c ≡ w) × (numbers c ≡ ns) × PaddedView c
 
 -- for code that tests the word and the count, and then reads each number
-pub made : (c : Command) (w : Word) (ns : List ℕ) → w ≡ word c → length ns ≡ length (numbers c) → HasBytesAt ns 0 (numbers c) → PaddedView c → Exactly (Some c) (Made w ns)
-made c w ns same long reads p =
-    let e = text_from_reads ns (numbers c) long reads in
-    exactly_some (Made w ns) c (sym same, sym e, p) (λ d h. same_command c d (sym same ∙ sym h.0) (sym e ∙ sym h.1) p h.2)
-
 -- the first places of the list hold the tables, and the others 0
 pub named_made : (d : Named) (list : List ℕ) → d.count ≡ length list → d.tables ≡ list ++ drop (length list) (replicate 14 0) → Exactly (Some d) (λ x. (tables_in x ≡ list) × Padded x)
 named_made d list count places =
@@ -160,19 +155,3 @@ named_made d list count places =
       unused = (λ i. drop (count i) (places i)) ∙ drop_at list (drop (length list) (replicate 14 0)) (length list) refl ∙ filled ∙ ap (λ n. replicate (14 - n) 0) (sym count);
     } in
     exactly_some (λ x. (tables_in x ≡ list) × Padded x) d (front, padded) (λ x h. same_named d x (front ∙ sym h.0) padded h.1)
-
-pub view_made : (d : Named) (w : Word) (ns rest : List ℕ) → w ≡ Word.View → 2 ≤ length ns → rest ≡ drop 2 ns → (tables_in d ≡ rest) × Padded d → Exactly (Some (Command.View (get_or ns 0 0) (get_or ns 1 0) d)) (Made w ns)
-view_made d w [] rest same long e h = absurd (omega arith)
-view_made d w (i ∷ []) rest same long e h = absurd (omega arith)
-view_made d w (i ∷ t ∷ ds) rest same long e h =
-    let all : i ∷ t ∷ tables_in d ≡ i ∷ t ∷ ds = ap (λ ts. i ∷ t ∷ ts) (h.0 ∙ e) in
-    exactly_some (Made w (i ∷ t ∷ ds)) (Command.View i t d) (sym same, all, h.1) (λ c m. same_command (Command.View i t d) c (sym same ∙ sym m.0) (all ∙ sym m.1) h.1 m.2)
-
--- where no tables can be named so, there is no view
-pub view_none : (o : Option Named) (r : Option Command) (w : Word) (ns rest : List ℕ) → Exactly o (λ d. (tables_in d ≡ rest) × Padded d) → o ≡ None → r ≡ None → w ≡ Word.View → rest ≡ drop 2 ns → Exactly r (Made w ns)
-view_none o r w ns rest told none gave same e =
-    subst (λ x. Exactly x (Made w ns)) (sym gave)
-    (exactly_none (Made w ns) (λ c m.
-    let named = listed_is c ∙ (λ i. listed ((m.0 ∙ same) i) (m.1 i)) ∙ sym e in
-    let some = sym none ∙ (told (named_of c)).1 (named, padded_of c m.2) in
-    none_some (named_of c) some))

@@ -35,27 +35,6 @@ unfolding parts
 parts_last [] w = refl
 parts_last (b ∷ l) w = cond-false (eqb b 32) _ _ (ne_eqb b 32 w.0) ∙ ap (onto b) (parts_last l w.1)
 
--- n bytes from i on have no stop, if what follows i has none so far
-without_stop : (stop : ℕ) (bytes : List ℕ) (i n : ℕ) → i + n ≤ length bytes → ((k : ℕ) → k < n → Passes (is_byte stop) (drop i bytes) k → ⊥) → Without stop (between i (i + n) bytes)
-without_stop stop bytes i n inside never =
-    All-from_get_or (λ x. x ≡ stop → ⊥) (between i (i + n) bytes) 0
-    (λ k h e. let short : k < i + n - i = omega (arith, length-between bytes i (i + n) inside) in never k (omega arith) (eq-eqb _ stop (sym (get_or-take (i + n - i) (drop i bytes) k 0 short) ∙ e)))
-
--- what a cut at the first stop of rest is, where rest is what follows i
-pub cut_first : {stop : ℕ} (bytes : List ℕ) (i n : ℕ) {rest : List ℕ} {next : Option ℕ} (first : Option ℕ) → i ≤ length bytes → rest ≡ drop i bytes → IsFirstByte (is_byte stop) rest first → n ≡ unwrap_or first (length rest) → next ≡ then_some (nat_lt (i + n) (length bytes)) (i + n + 1) → Cut stop bytes i (i + n) next
-cut_first {stop} bytes i n None inside same never ends past = record {
-  within = (omega arith, omega (arith, ap length same, length-drop i bytes));
-  without = without_stop stop bytes i n (omega (arith, ap length same, length-drop i bytes)) (λ k h. subst (λ r. Passes (is_byte stop) r k → ⊥) same (never k (omega arith) (omega arith)));
-  stops = λ h. absurd (omega (arith, ap length same, length-drop i bytes));
-  past = past;
-}
-cut_first {stop} bytes i n (Some m) inside same there ends past = record {
-  within = (omega arith, omega (arith, ap length same, length-drop i bytes, there.0.high));
-  without = without_stop stop bytes i n (omega (arith, ap length same, length-drop i bytes, there.0.high)) (λ k h. subst (λ r. Passes (is_byte stop) r k → ⊥) same (there.0.before k (omega arith) (omega arith)));
-  stops = λ h. sym (get_or-drop i bytes n 0) ∙ (λ j. get_or (sym same j) (ends j) 0) ∙ true-eqb _ stop (sym there.1);
-  past = past;
-}
-
 module _ {stop : ℕ} {bytes : List ℕ} {i j : ℕ} {next : Option ℕ} (cut : Cut stop bytes i j next) where
   cut_long : length (between i j bytes) ≡ j - i
   cut_long = length-between bytes i j cut.within.1
