@@ -1,7 +1,6 @@
 -- The words of a sheet are told apart by their bytes. Assumes nothing.
-use Rattle.std.proofs.Common.{◌≡◌, ℕ, cond, List, [], ◌∷◌, length, Some, None, Option, sym, refl, ap, ◌∙◌}
+use Rattle.std.proofs.Common.{◌≡◌, ℕ, cond, List, [], ◌∷◌, Some, None, Option, sym, refl, ap, ◌∙◌}
 use Rattle.std.specs.Str.{bytes_eq}
-use Rattle.std.proofs.lemmas.Slice.Eq.{HasBytesAt, text_from_reads}
 use Rattle.rights.proofs.Checks.{none_some}
 use Rattle.reader.specs.declared.words.Word.{Word}
 use Rattle.reader.specs.Exactly.{Exactly}
