@@ -31,7 +31,6 @@ same_named d e same p q =
 abbrev pub Made : Word → List ℕ → Command → Type 0
 Made w ns c = (word c ≡ w) × (numbers c ≡ ns) × PaddedView c
 
--- for code that tests the word and the count, and then reads each number
 -- the first places of the list hold the tables, and the others 0
 pub named_made : (d : Named) (list : List ℕ) → d.count ≡ length list → d.tables ≡ list ++ drop (length list) (replicate 14 0) → Exactly (Some d) (λ x. (tables_in x ≡ list) × Padded x)
 named_made d list count places =

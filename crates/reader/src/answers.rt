@@ -28,7 +28,7 @@ fn push_both(text: &mut ArrayString<32>, words: &str, n: u32)
 }
 
 // Adds an answer, without line number and end byte.
-#[tactic(auto, using(crate::proofs::Sizes::count_short, crate::proofs::Sizes::ground_short, crate::proofs::Sizes::number_short, crate::proofs::Sizes::layer_short, std::proofs::lemmas::Grind::common_steps))]
+#[tactic(auto, using(crate::proofs::Sizes::short, std::proofs::lemmas::Grind::common_steps))]
 fn push_answer(text: &mut ArrayString<32>, answer: &Answer)
     requires { array_string_len text.old + 13 ≤ 32 }
     ensures text { text.new.bytes ≡ text.old.bytes ++ answer_text answer.now }
@@ -47,7 +47,7 @@ fn push_answer(text: &mut ArrayString<32>, answer: &Answer)
 }
 
 // The answer to a line, as it is printed.
-#[tactic(auto, using(crate::proofs::Sizes::count_short, std::proofs::lemmas::Grind::common_steps), unfolding(crate::specs::Answers::answer_line))]
+#[tactic(auto, using(crate::proofs::Sizes::short, std::proofs::lemmas::Grind::common_steps), unfolding(crate::specs::Answers::answer_line))]
 fn printed(line: u32, answer: &Answer) -> ArrayString<32>
     ensures text { result.bytes ≡ answer_line line answer.now }
     ensures short { length (answer_line line answer.now) ≤ 25 }

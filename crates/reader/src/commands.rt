@@ -16,6 +16,7 @@ pub(crate) fn named(list: &[u16]) -> Option<Named>
     if list.len() > 14 {
         return None;
     }
+    // An array with a count, since a command is `Copy` and nothing here is on the heap.
     let mut tables = [0; 14];
     tables[0..list.len()].copy_from_slice(list);
     Some(Named {
@@ -26,7 +27,8 @@ pub(crate) fn named(list: &[u16]) -> Option<Named>
 
 // The command of a word and its numbers, if the word takes that many.
 pub(crate) fn command_of(word: Word, list: &[u16]) -> Option<Command>
-    ensures { Exactly result (λ c. (word_of c ≡ word) × (numbers_of c ≡ list.now) × PaddedView c) }
+    ensures { Exactly result
+        (λ c. (word_of c ≡ word) × (numbers_of c ≡ list.now) × PaddedView c) }
 {
     match (word, list) {
         (Word::User, &[n, c]) => Some(Command::User { n, c }),

@@ -16,7 +16,8 @@ pub fn fits(bytes: &[u8]) -> bool
     bytes.len() <= LONGEST
 }
 
-// Where the piece from `from` on ends, at the first `stop` or with the bytes, and the place past that stop.
+// Where the piece from `from` on ends, at the first `stop` or with the bytes, and the place past
+// that stop.
 pub(crate) fn cut(bytes: &[u8], from: usize, stop: u8) -> (usize, Option<usize>)
     requires { from ≤ length bytes.now }
     ensures { Cut stop bytes.now from result.0 result.1 }

@@ -2,7 +2,8 @@
 ghost use Rattle.std.specs.Prelude.{◌≤◌, length};
 ghost use Rattle.std.specs.Option.{ForSome};
 
-/// A sheet that is read from the front: `at` is the place of the next line, `line` the number of the last.
+/// A sheet that is read from the front: `at` is the place of the next line, `line` the number of
+/// the last.
 #[derive(Drop)]
 pub struct Reader<'a> {
     pub(crate) bytes: &'a [u8],
@@ -14,7 +15,8 @@ pub struct Reader<'a> {
     ghost counted: { line ≤ at },
 }
 
-/// A line of a sheet: its number from 1, its place in the sheet, and its bytes there without the end byte.
+/// A line of a sheet: its number from 1, its place in the sheet, and its bytes there without the
+/// end byte.
 #[derive(Clone, Copy)]
 pub struct Line<'a> {
     pub number: u32,
@@ -23,7 +25,8 @@ pub struct Line<'a> {
     pub bytes: &'a [u8],
 }
 
-/// The words and numbers of a line that were not yet given: those from `at` on, or none past the last.
+/// The words and numbers of a line that were not yet given: those from `at` on, or none past the
+/// last.
 #[derive(Drop)]
 pub struct Parts<'a> {
     pub(crate) line: &'a [u8],

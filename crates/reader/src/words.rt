@@ -42,7 +42,8 @@ impl<'a> Line<'a> {
 impl<'a> Parts<'a> {
     /// Takes the next part, which ends at a space or with the line. None past the last one.
     pub fn next_part(&mut self) -> Option<Part<'a>>
-        ensures { MatchOption result (NoPart self.old self.new) (λ x. NextPart self.old x self.new) }
+        ensures { MatchOption result (NoPart self.old self.new)
+            (λ x. NextPart self.old x self.new) }
     {
         let at = self.at?;
         let (end, next) = cut(self.line, at, b' ');
