@@ -102,3 +102,6 @@ cut_part {line} {i} {j} {next} cut = ⊎_elim within ended (cases_lt j (length l
     ended : length line ≤ j → parts (drop i line) ≡ between i j line ∷ parts_from line next
     ended h =
         ap parts (cut_end cut h) ∙ parts_last (between i j line) cut.without ∙ ap (λ o. between i j line ∷ parts_from line o) (sym (cut_last cut h))
+
+-- what a cut says of the line or the part before it, and of what is left
+pub ruleset pieces = (lines_none, cut_line, cut_part, cut_ends, cut_stands, cut_past, stands_within)

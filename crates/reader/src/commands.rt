@@ -82,6 +82,7 @@ pub(crate) fn command_of(word: Word, list: &[u16]) -> Option<Command>
 }
 
 // The command that a line is, if it is one.
+#[tactic(auto, using(crate::proofs::Written::unread))]
 fn read(line: &Line<'_>) -> Option<Command>
     ensures { Exactly result (λ c. Plain c × (written c ≡ line.now.bytes.now)) }
 {

@@ -41,6 +41,7 @@ impl<'a> Reader<'a> {
     }
 
     /// Takes the next line, readable or not. None at the end of the sheet.
+    #[tactic(auto, using(crate::proofs::Pieces::pieces, std::proofs::lemmas::List::drop_all))]
     pub fn next_line(&mut self) -> Option<Line<'a>>
         ensures { MatchOption result (Ended self.old self.new) (λ l. Next self.old l self.new) }
     {

@@ -16,6 +16,7 @@ fn is_written(number: u16, digits: &[u8]) -> bool
 
 impl Part<'_> {
     /// The number that stands here, if one of 1 to 3 digits without a leading zero does.
+    #[tactic(auto, using(crate::proofs::Figures::unlike_number, crate::proofs::Figures::reads_number, std::proofs::lemmas::Grind::common_steps))]
     pub fn number(&self) -> Option<u16>
         ensures { Exactly result (λ n. (n ≤ 999) × (decimal n ≡ self.now.bytes.now)) }
     {
