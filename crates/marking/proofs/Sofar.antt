@@ -1,7 +1,6 @@
 -- What the loop over the lines keeps: the lines read so far have right answers, and their texts are written.
 -- Assumes nothing.
-use Rattle.std.proofs.Common.{◌≡◌, ℕ, ◌+◌, ◌-◌, ◌≤◌, List, [], ◌∷◌, ◌++◌, length, take, sym, ap, ◌∙◌, subst, append_assoc, append-nil, arith, length-append, take_all}
-use lib.Seq.{take-append-le}
+use Rattle.std.proofs.Common.{◌≡◌, ℕ, ◌+◌, List, [], ◌∷◌, ◌++◌, length, sym, ap, ◌∙◌, subst, append_assoc, append-nil, arith, length-append}
 use Rattle.reader.specs.declared.shapes.Line.{Line}
 use Rattle.reader.specs.declared.shapes.Reader.{Reader}
 use Rattle.reader.specs.Answers.{answer_line}
@@ -36,10 +35,3 @@ one_more sheet r s l state state' h h' out out' a old next answered new = record
 
 pub no_more : (sheet : List ℕ) (r : Reader) (state : State) (h : History) (out : List ℕ) → Sofar sheet r state h out → lines (rest r) ≡ [] → (ys : List Answer) × Answers State.SettingUp empty_history (lines sheet) ys × (out ≡ texts 1 ys)
 no_more sheet r state h out old none = (old.done, subst (Answers State.SettingUp empty_history (lines sheet)) (append-nil old.done) (old.before [] (subst (λ (ls : List (List ℕ)). Answers state h ls []) (sym none) Answers.none)), old.text)
-
--- the front of a buffer that begins with a text
-pub front : (text tail buffer : List ℕ) (k : ℕ) → k ≡ length text → buffer ≡ text ++ tail → take (k - 0) buffer ≡ text
-front text tail buffer k e is =
-    let long : k - 0 ≡ length text = omega arith in
-    let h : length text ≤ length text = omega arith in
-    ap (λ n. take n buffer) long ∙ ap (take (length text)) is ∙ take-append-le (length text) text tail h ∙ take_all (length text) text h

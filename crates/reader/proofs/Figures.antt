@@ -1,11 +1,14 @@
 -- Which bytes are a number of at most three digits. Assumes nothing.
-use Rattle.std.proofs.Common.{◌≡◌, ℕ, ◌+◌, ◌/◌, ◌%◌, ◌^◌, ◌<◌, ◌≤◌, ◌⊎◌, List, length, get_or, take, Some, None, decimal, sym, ap, ◌∙◌, subst, ⊎_elim, arith, length-take}
-use Rattle.std.specs.Str.Parse.{AllDigits, digits_value}
+use Rattle.std.proofs.Common.{◌≡◌, ℕ, ◌^◌, ◌<◌, ◌≤◌, ◌↔◌, Bool, true, false, List, length, get_or, Some, None, Ok, Result, decimal, IsTrue, sym, refl, ap, ◌∙◌, subst, arith}
+use Rattle.std.specs.Bool.{then_some}
+use Rattle.std.specs.Result.{result_ok}
+use Rattle.std.specs.Str.{IsUtf8}
+use Rattle.std.specs.Str.Parse.{AllDigits, digits_value, ParsesUnsigned}
 use Rattle.std.specs.Int.{IsInRange}
-use Rattle.std.proofs.lemmas.Fmt.{decimal_digit, decimal_step, length-decimal-le, decimal_nonempty, first_decimal, digits_decimal, decimal_injective, decimal-digits_value}
-use Rattle.std.proofs.lemmas.List.{length_push}
-use Rattle.std.proofs.lemmas.Str.Parse.{IsNumeralModel, numerals_by_value, tells_digits, digit_at, digits_value_short}
-use Rattle.std.proofs.lemmas.Bool.{cases_lt}
+use Rattle.std.proofs.lemmas.Fmt.{IsAscii-decimal, decimal_nonempty, digits_decimal, digits_value-decimal}
+use Rattle.std.proofs.lemmas.Str.{IsUtf8-from_ascii}
+use Rattle.std.proofs.lemmas.Str.Parse.{IsNumeralModel, numerals_by_value, tells_digits, digit_at, parse_gives}
+use Rattle.rights.proofs.Checks.{none_some}
 use Rattle.reader.specs.Exactly.{Exactly}
 use Rattle.reader.proofs.Spelled.{exactly_some, exactly_none}
 
@@ -16,42 +19,26 @@ own = numerals_by_value (AllDigits 10) tells_digits
 abbrev pub Reads : List ℕ → ℕ → Type 0
 Reads bs n = (n ≤ 999) × (decimal n ≡ bs)
 
-value_small : (ds : List ℕ) → AllDigits 10 ds → length ds ≤ 3 → digits_value 10 ds ≤ 999
-value_small ds digits short = omega (arith, digits_value_short own ds 3 digits short)
-
-pub front_small : (bs : List ℕ) (i : ℕ) → length bs ≤ 3 → AllDigits 10 (take i bs) → digits_value 10 (take i bs) ≤ 999
-front_small bs i short digits = value_small (take i bs) digits (omega (arith, length-take i bs))
-
 module _ (bs : List ℕ) where
-  pub unlike_length : (length bs ≡ 0) ⊎ (3 < length bs) → Exactly None (Reads bs)
-  unlike_length wrong = exactly_none (Reads bs) (λ n h.
-      let some = decimal_nonempty n (omega (arith, h.0)) in
-      let short = length-decimal-le 3 n (omega arith) (omega (arith, h.0)) (omega (arith, h.0)) in
-      let long = ap length h.1 in
-      ⊎_elim (λ none. omega arith) (λ more. omega arith) wrong)
+  pub unlike_text : (IsUtf8 bs → ⊥) → Exactly None (Reads bs)
+  unlike_text wrong = exactly_none (Reads bs) (λ n h. wrong (subst IsUtf8 h.1 (IsUtf8-from_ascii (decimal n) (IsAscii-decimal n (omega (arith, h.0))))))
 
-  pub unlike_zero : get_or bs 0 0 ≡ 48 → 1 < length bs → Exactly None (Reads bs)
-  unlike_zero first long = exactly_none (Reads bs) (λ n h.
-      let small : n < 2 ^ 64 = omega (arith, h.0) in
-      ⊎_elim
-      (λ more. omega (arith, first_decimal n more small, ap (λ ds. get_or ds 0 0) h.1))
-      (λ none. let e = decimal_digit n (omega arith) in omega (arith, ap length e, ap length h.1))
-      (cases_lt 0 n))
+  module _ {E : Type 0} (r : Result ℕ E) (told : ParsesUnsigned 16 10 bs r) where
+    -- a number that is written so is what parsing gives
+    parsed : (n : ℕ) → Reads bs n → r ≡ Ok n
+    parsed n h =
+        let small : n < 2 ^ 64 = omega (arith, h.0) in
+        let digits = subst (AllDigits 10) h.1 (digits_decimal own n small) in
+        let is : digits_value 10 bs ≡ n = ap (digits_value 10) (sym h.1) ∙ digits_value-decimal own n small in
+        parse_gives own 16 bs r told digits (omega (arith, decimal_nonempty n small, ap length h.1)) (omega (arith, h.0)) ∙ ap Ok is
 
-  pub unlike_digit : (i : ℕ) → i < length bs → (IsInRange 48 57 (get_or bs i 0) → ⊥) → Exactly None (Reads bs)
-  unlike_digit i within wrong = exactly_none (Reads bs) (λ n h.
-      let digits : AllDigits 10 bs = subst (AllDigits 10) h.1 (digits_decimal own n (omega (arith, h.0))) in
-      wrong (digit_at bs i digits within))
+    pub unlike_number : result_ok r ≡ None → Exactly None (Reads bs)
+    unlike_number none = exactly_none (Reads bs) (λ n h. none_some n (sym none ∙ ap result_ok (parsed n h)))
 
-  pub reads_value : AllDigits 10 bs → 0 < length bs → length bs ≤ 3 → (get_or bs 0 0 ≡ 48 → length bs ≡ 1) → Exactly (Some (digits_value 10 bs)) (Reads bs)
-  reads_value digits some short first =
-      let small = value_small bs digits short in
-      let written = decimal-digits_value own bs digits some first (omega arith) in
-      exactly_some (Reads bs) (digits_value 10 bs) (small, written) (λ n h. decimal_injective _ n (omega arith) (omega (arith, h.0)) (written ∙ sym h.1))
+    pub reads_number : (n : ℕ) (b : Bool) → result_ok r ≡ Some n → IsTrue b ↔ Reads bs n → Exactly (then_some b n) (Reads bs)
+    reads_number n true is same = exactly_some (Reads bs) n (same.0 refl) (λ m h. let one : Some n ≡ Some m = sym is ∙ ap result_ok (parsed m h) in cc)
+    reads_number n false is same = exactly_none (Reads bs) (λ m h. let one : Some n ≡ Some m = sym is ∙ ap result_ok (parsed m h) in let there : n ≡ m = cc in let no : false ≡ true = same.1 (subst (Reads bs) (sym there) h) in cc)
 
 -- each byte of a number is a digit
 pub figure_at : (n i : ℕ) → n ≤ 999 → i < length (decimal n) → IsInRange 48 57 (get_or (decimal n) i 0)
 figure_at n i small within = digit_at (decimal n) i (digits_decimal own n (omega arith)) within
-
-pub length_decimal_step : (n : ℕ) → 10 ≤ n → n < 2 ^ 64 → length (decimal n) ≡ length (decimal (n / 10)) + 1
-length_decimal_step n more small = ap length (decimal_step n more small) ∙ length_push (decimal (n / 10)) (48 + n % 10)

@@ -63,3 +63,6 @@ layer_short f = length-decimal-le 1 (layer f) (omega arith) (omega (arith, (faul
 
 pub count_short : (n : ℕ) → n < 2 ^ 32 → length (decimal n) ≤ 10
 count_short n small = length-decimal-le 10 n (omega arith) (omega arith) (omega arith)
+
+-- how long each part of an answer can be
+pub ruleset short = (count_short, ground_short, number_short, layer_short)

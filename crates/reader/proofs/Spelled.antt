@@ -1,7 +1,6 @@
 -- The words of a sheet are told apart by their bytes. Assumes nothing.
-use Rattle.std.proofs.Common.{◌≡◌, ℕ, cond, List, [], ◌∷◌, length, Some, None, Option, sym, refl, ap, ◌∙◌}
+use Rattle.std.proofs.Common.{◌≡◌, ℕ, cond, List, [], ◌∷◌, Some, None, Option, sym, refl, ap, ◌∙◌}
 use Rattle.std.specs.Str.{bytes_eq}
-use Rattle.std.proofs.lemmas.Slice.Eq.{HasBytesAt, text_from_reads}
 use Rattle.rights.proofs.Checks.{none_some}
 use Rattle.reader.specs.declared.words.Word.{Word}
 use Rattle.reader.specs.Exactly.{Exactly}
@@ -39,9 +38,3 @@ found Word.May = refl
 
 pub same_word : (v w : Word) → text v ≡ text w → v ≡ w
 same_word v w e = let both : Some v ≡ Some w = sym (found v) ∙ ap (λ bs. among bs every_word) e ∙ found w in cc
-
--- for code that tests the length and then each byte
-pub reads_word : (w : Word) (bs : List ℕ) → length bs ≡ length (text w) → HasBytesAt bs 0 (text w) → Exactly (Some w) (λ x. text x ≡ bs)
-reads_word w bs long reads =
-    let e = text_from_reads bs (text w) long reads in
-    exactly_some (λ x. text x ≡ bs) w (sym e) (λ x h. same_word w x (sym e ∙ sym h))

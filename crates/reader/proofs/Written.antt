@@ -161,3 +161,6 @@ module _ {line first : List ℕ} {rest : List (List ℕ)} (split : parts line �
     λ e. let made = (told c).0 e in (record { short = subst (AllByRecursion (λ n. n ≤ 999)) (sym made.1) numbered.short; padded = made.2 }, written_is w ns c named numbered made),
     λ h. let is = read_parts c h in (told c).1 (same_word (word c) w (is.0 ∙ sym named), same_numbers (numbers c) ns h.0.short numbered.short (is.1.digits ∙ sym numbered.digits), h.0.padded),
   )
+
+-- where a line is read as no command
+pub ruleset unread = (no_part, no_word, no_numbers)

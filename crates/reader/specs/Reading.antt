@@ -1,12 +1,12 @@
 -- What a reader gives, one line after the other, and where it then stands.
-use Rattle.std.specs.Prelude.{◌≡◌, ℕ, ◌+◌, ◌<◌, ◌≤◌, min, Bool, true, cond, List, [], ◌∷◌, map, length, take, drop, decimal, nat_lt}
+use Rattle.std.specs.Prelude.{◌≡◌, ℕ, ◌+◌, ◌<◌, ◌≤◌, min, Option, Some, None, List, [], ◌∷◌, map, length, slice_index, take, drop, decimal, nat_lt}
+use Rattle.std.specs.Bool.{then_some}
 use Rattle.std.specs.List.{between, AllByRecursion}
 use Rattle.reader.specs.declared.shapes.Reader.{Reader}
 use Rattle.reader.specs.declared.shapes.Line.{Line}
-use Rattle.reader.specs.declared.shapes.Numbers.{Numbers}
 use Rattle.reader.specs.declared.shapes.Part.{Part}
 use Rattle.reader.specs.declared.shapes.Parts.{Parts}
-use Rattle.reader.specs.Lines.{lines, parts}
+use Rattle.reader.specs.Lines.{Without, lines, parts}
 
 -- the bytes of the whole sheet
 abbrev pub sheet : Reader → List ℕ
@@ -20,23 +20,12 @@ rest r = drop r.at (sheet r)
 abbrev pub Stands : List ℕ → ℕ → List ℕ → Type 0
 Stands bytes at part = (take (length part) (drop at bytes) ≡ part) × (at + length part ≤ length bytes)
 
--- the line from i on ends at j, and the next one begins at n
-pub record CutLine (bytes : List ℕ) (i j n : ℕ) : Type 0 where
-  pub first : lines (drop i bytes) ≡ between i j bytes ∷ lines (drop n bytes)
-  pub long : i + length (between i j bytes) ≡ j
-  pub stands : Stands bytes i (between i j bytes)
+-- the piece of bytes from i on ends at j: at the first stop, where next is the place past it, or with the bytes
+pub record Cut (stop : ℕ) (bytes : List ℕ) (i j : ℕ) (next : Option ℕ) : Type 0 where
   pub within : (i ≤ j) × (j ≤ length bytes)
-  pub onward : i < n
-  pub past : n ≡ min (length bytes) (j + 1)
-
--- the part from i on ends at j, and the next one, if there is more, begins at n
-pub record CutPart (line : List ℕ) (i j n : ℕ) : Type 0 where
-  pub first : (more : Bool) → more ≡ true → cond more (parts (drop i line)) [] ≡ between i j line ∷ cond (nat_lt j (length line)) (parts (drop n line)) []
-  pub long : i + length (between i j line) ≡ j
-  pub stands : Stands line i (between i j line)
-  pub sheet : (bytes : List ℕ) (at : ℕ) → Stands bytes at line → Stands bytes (at + i) (between i j line)
-  pub within : (i ≤ j) × (j ≤ length line)
-  pub past : n ≡ min (length line) (j + 1)
+  pub without : Without stop (between i j bytes)
+  pub stops : j < length bytes → slice_index bytes j ≡ stop
+  pub past : next ≡ then_some (nat_lt j (length bytes)) (j + 1)
 
 -- r is at the front of the sheet; where that is over 32,768 bytes, of an empty one
 pub record Begun (bytes : List ℕ) (r : Reader) : Type 0 where
@@ -60,15 +49,20 @@ pub record Next (r : Reader) (l : Line) (s : Reader) : Type 0 where
   pub onward : r.at < s.at
   pub past : s.at ≡ min (length (sheet r)) (l.at + length l.bytes.now + 1)
 
+-- the parts of a line from a place on, if there is a place
+abbrev pub parts_from : List ℕ → Option ℕ → List (List ℕ)
+parts_from line None = []
+parts_from line (Some i) = parts (drop i line)
+
 -- the parts of a line that were not yet given
 abbrev pub left : Parts → List (List ℕ)
-left p = cond p.more (parts (drop p.at p.line.now)) []
+left p = parts_from p.line.now p.at
 
 -- p has every part of the line to give
 pub record Opened (l : Line) (p : Parts) : Type 0 where
   pub whole : left p ≡ parts l.bytes.now
   pub line : p.line.now ≡ l.bytes.now
-  pub front : p.at ≡ 0
+  pub front : p.at ≡ Some 0
 
 -- there is no further part, and p stays
 abbrev pub NoPart : Parts → Parts → Type 0
@@ -77,16 +71,13 @@ NoPart p q = (left p ≡ []) × (q ≡ p)
 -- x is the next part of p, and q is p after it
 pub record NextPart (p : Parts) (x : Part) (q : Parts) : Type 0 where
   pub first : left p ≡ x.bytes.now ∷ left q
-  pub place : x.at ≡ p.at
+  pub place : p.at ≡ Some x.at
   pub stands : Stands p.line.now x.at x.bytes.now
   -- in a sheet it stands as far from the line's place as in the line from the front
   pub within : (bytes : List ℕ) (at : ℕ) → Stands bytes at p.line.now → Stands bytes (at + x.at) x.bytes.now
   pub same : q.line.now ≡ p.line.now
-  pub past : q.at ≡ min (length p.line.now) (x.at + length x.bytes.now + 1)
-  pub last : q.more ≡ nat_lt (x.at + length x.bytes.now) (length p.line.now)
-
-abbrev pub counted : Numbers → List ℕ
-counted n = take n.count n.values
+  -- the next one begins past the space that ended it, or it was the last
+  pub past : q.at ≡ (let end = x.at + length x.bytes.now in then_some (nat_lt end (length p.line.now)) (end + 1))
 
 -- the parts ps are the numbers ns, at most sixteen and each of at most three digits
 pub record Numbered (ps : List (List ℕ)) (ns : List ℕ) : Type 0 where

@@ -1,89 +1,67 @@
 // The writer of answers.
-ghost use Rattle.std.specs.Prelude.{◌≡◌, ◌+◌, ◌≤◌, ◌++◌, length, drop, IfOk, decimal};
-ghost use Rattle.rights.specs.Numbers.{ground_number};
-ghost use Rattle.reader.specs.Answers.{answer_text, answer_line, Put, Answered};
+ghost use Rattle.std.specs.Prelude.{◌≡◌, ◌+◌, ◌≤◌, ◌++◌, length, IfOk, decimal};
+ghost use Rattle.arrayvec.specs.ArrayString.{array_string_len};
+ghost use Rattle.reader.specs.Answers.{answer_text, answer_line, Answered};
 
-use rights::{Answer, Ground, RegisterFault};
+use arrayvec::ArrayString;
+use itoa::Buffer;
+use rights::{Answer, RegisterFault};
 
-// The shortest buffer that an answer is written to.
+/// The shortest buffer that an answer is written to.
 pub const SHORTEST_BUFFER: usize = 32;
 
-fn ground_number(ground: Ground) -> u32
-    ensures { result ≡ ground_number ground }
+// Adds the digits of `n`.
+fn push_number(text: &mut ArrayString<32>, n: u32)
+    requires { array_string_len text.old + length (decimal n) ≤ 32 }
+    ensures { text.new.bytes ≡ text.old.bytes ++ decimal n }
 {
-    match ground {
-        Ground::Nothing => 0,
-        Ground::Strong => 1,
-        Ground::Weak => 2,
-        Ground::Named => 3,
-    }
+    text.push_str(Buffer::new().format(n));
 }
 
-// Writes `text` from `at` on, and gives the place after it.
-fn put_text(buffer: &mut [u8], at: usize, text: &[u8]) -> usize
-    requires { at + length text.now ≤ length buffer.old }
-    ensures { Put at text.now buffer.old result buffer.new }
+// Adds some words and then the digits of `n`.
+fn push_both(text: &mut ArrayString<32>, words: &str, n: u32)
+    requires { array_string_len text.old + length words.now + length (decimal n) ≤ 32 }
+    ensures { text.new.bytes ≡ text.old.bytes ++ (words.now ++ decimal n) }
 {
-    let end = at + text.len();
-    buffer[at..end].copy_from_slice(text);
-    end
+    text.push_str(words);
+    push_number(text, n);
 }
 
-// Writes the digits of `n` from `at` on, and gives the place after them.
-fn put_number(buffer: &mut [u8], at: usize, n: u32) -> usize
-    requires { at + length (decimal n) ≤ length buffer.old }
-    ensures { Put at (decimal n) buffer.old result buffer.new }
-{
-    let digit = [b'0' + (n % 10) as u8];
-    if n < 10 {
-        return put_text(buffer, at, &digit);
-    }
-    let last = put_number(buffer, at, n / 10);
-    put_text(buffer, last, &digit)
-}
-
-// Writes `text` and then the digits of `n` from `at` on, and gives the place after them.
-fn put_both(buffer: &mut [u8], at: usize, text: &[u8], n: u32) -> usize
-    requires { at + length (text.now ++ decimal n) ≤ length buffer.old }
-    ensures { Put at (text.now ++ decimal n) buffer.old result buffer.new }
-{
-    let next = put_text(buffer, at, text);
-    put_number(buffer, next, n)
-}
-
-// Writes an answer from `at` on, without line number and end byte, and gives the place after it.
-fn put_answer(buffer: &mut [u8], at: usize, answer: &Answer) -> usize
-    requires { at + 13 ≤ length buffer.old }
-    ensures put { Put at (answer_text answer.now) buffer.old result buffer.new }
+// Adds an answer, without line number and end byte.
+#[tactic(auto, using(crate::proofs::Sizes::short, std::proofs::lemmas::Grind::common_steps))]
+fn push_answer(text: &mut ArrayString<32>, answer: &Answer)
+    requires { array_string_len text.old + 13 ≤ 32 }
+    ensures text { text.new.bytes ≡ text.old.bytes ++ answer_text answer.now }
     ensures short { length (answer_text answer.now) ≤ 13 }
 {
     match answer {
-        Answer::Done => put_text(buffer, at, b"ok"),
-        Answer::Struck(count) => put_both(buffer, at, b"ok ", *count),
-        Answer::Yes(ground) => put_both(buffer, at, b"yes ", ground_number(*ground)),
-        Answer::No(ground) => put_both(buffer, at, b"no ", ground_number(*ground)),
+        Answer::Done => text.push_str("ok"),
+        Answer::Struck(count) => push_both(text, "ok ", *count),
+        Answer::Yes(ground) => push_both(text, "yes ", u32::from(*ground)),
+        Answer::No(ground) => push_both(text, "no ", u32::from(*ground)),
         Answer::Refused(fault) => {
-            let next = put_both(buffer, at, b"refused ", u32::from(fault.number()));
-            put_both(buffer, next, b" ", u32::from(fault.layer()))
+            push_both(text, "refused ", u32::from(fault.number()));
+            push_both(text, " ", u32::from(fault.layer()));
         }
     }
 }
 
-// Writes the answer to a line at the front of the buffer, and gives its length.
-fn put_line(buffer: &mut [u8], line: u32, answer: &Answer) -> usize
-    requires { 32 ≤ length buffer.old }
-    ensures text { buffer.new ≡ answer_line line answer.now ++ drop result buffer.old }
-    ensures past { result ≡ length (answer_line line answer.now) }
-    ensures short { result ≤ 25 }
+// The answer to a line, as it is printed.
+#[tactic(auto, using(crate::proofs::Sizes::short, std::proofs::lemmas::Grind::common_steps), unfolding(crate::specs::Answers::answer_line))]
+fn printed(line: u32, answer: &Answer) -> ArrayString<32>
+    ensures text { result.bytes ≡ answer_line line answer.now }
+    ensures short { length (answer_line line answer.now) ≤ 25 }
 {
-    let at = put_number(buffer, 0, line);
-    let at = put_text(buffer, at, b" ");
-    let at = put_answer(buffer, at, answer);
-    put_text(buffer, at, b"\n")
+    let mut text = ArrayString::new();
+    push_number(&mut text, line);
+    text.push_str(" ");
+    push_answer(&mut text, answer);
+    text.push_str("\n");
+    text
 }
 
-// Writes the answer to a line at the front of the buffer, and gives its length. A short buffer is
-// refused and left as it is.
+/// Writes the answer to a line at the front of the buffer, and gives its length. A short buffer is
+/// refused and left as it is.
 pub fn write_answer(buffer: &mut [u8], line: u32, answer: &Answer) -> Result<usize, RegisterFault>
     ensures answered { Answered line answer.now buffer.old result buffer.new }
     ensures short { IfOk result (λ k. k ≤ 25) }
@@ -91,5 +69,7 @@ pub fn write_answer(buffer: &mut [u8], line: u32, answer: &Answer) -> Result<usi
     if buffer.len() < SHORTEST_BUFFER {
         return Err(RegisterFault::ShortList);
     }
-    Ok(put_line(buffer, line, answer))
+    let text = printed(line, answer);
+    buffer[..text.len()].copy_from_slice(text.as_bytes());
+    Ok(text.len())
 }

@@ -16,6 +16,7 @@ pub(crate) fn named(list: &[u16]) -> Option<Named>
     if list.len() > 14 {
         return None;
     }
+    // An array with a count, since a command is `Copy` and nothing here is on the heap.
     let mut tables = [0; 14];
     tables[0..list.len()].copy_from_slice(list);
     Some(Named {
@@ -26,7 +27,8 @@ pub(crate) fn named(list: &[u16]) -> Option<Named>
 
 // The command of a word and its numbers, if the word takes that many.
 pub(crate) fn command_of(word: Word, list: &[u16]) -> Option<Command>
-    ensures { Exactly result (λ c. (word_of c ≡ word) × (numbers_of c ≡ list.now) × PaddedView c) }
+    ensures { Exactly result
+        (λ c. (word_of c ≡ word) × (numbers_of c ≡ list.now) × PaddedView c) }
 {
     match (word, list) {
         (Word::User, &[n, c]) => Some(Command::User { n, c }),
@@ -80,23 +82,21 @@ pub(crate) fn command_of(word: Word, list: &[u16]) -> Option<Command>
 }
 
 // The command that a line is, if it is one.
+#[tactic(auto, using(crate::proofs::Written::unread))]
 fn read(line: &Line<'_>) -> Option<Command>
     ensures { Exactly result (λ c. Plain c × (written c ≡ line.now.bytes.now)) }
 {
     let mut parts = line.parts();
-    let Some(first) = parts.next_part() else {
-        return None;
-    };
-    let word = first.word()?;
-    let rest = numbers(&mut parts)?;
-    command_of(word, rest.list())
+    let word = parts.next_part()?.word()?;
+    let rest = numbers(parts)?;
+    command_of(word, &rest)
 }
 
-// The longest line that is read, without its end byte.
+/// The longest line that is read, without its end byte.
 pub const LONGEST_LINE: usize = 80;
 
 impl Line<'_> {
-    // The command that the line is, if it is one. No line over `LONGEST_LINE` bytes is.
+    /// The command that the line is, if it is one. No line over `LONGEST_LINE` bytes is.
     pub fn command(&self) -> Option<Command>
         ensures exactly { Exactly result (λ c. Plain c × (written c ≡ self.now.bytes.now)) }
         ensures long { 80 < length self.now.bytes.now → result ≡ None }

@@ -1,67 +1,47 @@
 // The reader of a sheet, a line at a time.
-ghost use Rattle.std.specs.Prelude.{◌≡◌, ℕ, ◌<◌, ◌≤◌, length, MatchOption, ◌≢◌, nat_le, slice_index};
-ghost use Rattle.reader.specs.Reading.{CutLine, Begun, Ended, Next};
+ghost use Rattle.std.specs.Prelude.{◌≡◌, ◌≤◌, ◌↔◌, length, MatchOption, IsTrue};
+ghost use Rattle.std.specs.Iterator.{at_most};
+ghost use Rattle.reader.specs.Reading.{rest, Cut, Begun, Ended, Next};
 
 use crate::shapes::{Line, Reader};
+use memchr::memchr;
 
-// The longest sheet that is read.
+/// The longest sheet that is read.
 pub const LONGEST: usize = 32_768;
 
-// Whether a sheet is short enough to be read.
+/// Whether a sheet is short enough to be read.
 pub fn fits(bytes: &[u8]) -> bool
-    ensures { result ≡ nat_le (length bytes.now) 32768 }
+    ensures { IsTrue result ↔ (length bytes.now ≤ 32768) }
 {
     bytes.len() <= LONGEST
 }
 
-// The place of the first `stop` from `from` on, or the end.
-pub(crate) fn run(bytes: &[u8], from: usize, stop: u8) -> usize
+// Where the piece from `from` on ends, at the first `stop` or with the bytes, and the place past
+// that stop.
+pub(crate) fn cut(bytes: &[u8], from: usize, stop: u8) -> (usize, Option<usize>)
     requires { from ≤ length bytes.now }
-    ensures onward { from ≤ result }
-    ensures within { result ≤ length bytes.now }
-    ensures passed { (k : ℕ) → from ≤ k → k < result → slice_index bytes.now k ≢ stop }
-    ensures stops { result < length bytes.now → slice_index bytes.now result ≡ stop }
+    ensures { Cut stop bytes.now from result.0 result.1 }
 {
-    let mut at = from;
-    while at < bytes.len() && bytes[at] != stop {
-        at += 1;
-    }
-    at
-}
-
-// Where the line from `from` on ends, and where the next one begins.
-fn cut_line(bytes: &[u8], from: usize) -> (usize, usize)
-    requires { from < length bytes.now }
-    ensures { CutLine bytes.now from result.0 result.1 }
-{
-    let end = run(bytes, from, b'\n');
-    if end < bytes.len() {
-        return (end, end + 1);
-    }
-    (end, end)
+    let rest = &bytes[from..];
+    let end = from + memchr(stop, rest).unwrap_or(rest.len());
+    (end, (end < bytes.len()).then_some(end + 1))
 }
 
 impl<'a> Reader<'a> {
-    // Begins a sheet. One that does not fit gives no line.
+    /// Begins a sheet. One that does not fit gives no line.
     pub fn new(bytes: &'a [u8]) -> Reader<'a>
         ensures { Begun bytes.now result }
     {
-        if fits(bytes) {
-            Reader {
-                bytes,
-                at: 0,
-                line: 0,
-            }
-        } else {
-            Reader {
-                bytes: &bytes[0..0],
-                at: 0,
-                line: 0,
-            }
+        let bytes = if fits(bytes) { bytes } else { &bytes[0..0] };
+        Reader {
+            bytes,
+            at: 0,
+            line: 0,
         }
     }
 
-    // Takes the next line, readable or not. None at the end of the sheet.
+    /// Takes the next line, readable or not. None at the end of the sheet.
+    #[tactic(auto, using(crate::proofs::Pieces::pieces, std::proofs::lemmas::List::drop_all))]
     pub fn next_line(&mut self) -> Option<Line<'a>>
         ensures { MatchOption result (Ended self.old self.new) (λ l. Next self.old l self.new) }
     {
@@ -69,13 +49,26 @@ impl<'a> Reader<'a> {
             return None;
         }
         let at = self.at;
-        let (end, next) = cut_line(self.bytes, at);
-        self.at = next;
+        let (end, next) = cut(self.bytes, at, b'\n');
+        self.at = next.unwrap_or(end);
         self.line += 1;
         Some(Line {
             number: self.line,
             at,
             bytes: &self.bytes[at..end],
         })
+    }
+}
+
+/// The lines that are left, one after the other.
+impl<'a> Iterator for Reader<'a> {
+    type Item = Line<'a>;
+
+    ghost next_gives = { λ r o s. MatchOption o (Ended r s) (λ l. Next r l s) };
+
+    ghost remaining = { λ r. at_most (length (rest r)) };
+
+    fn next(&mut self) -> Option<Line<'a>> {
+        self.next_line()
     }
 }

@@ -1,12 +1,14 @@
 // The words of a sheet, and the parts of a line one after the other.
-ghost use Rattle.std.specs.Prelude.{◌≡◌, ◌≤◌, length, MatchOption};
+ghost use Rattle.std.specs.Prelude.{◌≡◌, length, MatchOption};
+ghost use Rattle.std.specs.Iterator.{at_most};
 ghost use Rattle.reader.specs.Exactly.{Exactly};
-ghost use Rattle.reader.specs.Reading.{CutPart, Opened, NoPart, NextPart};
+ghost use Rattle.reader.specs.Reading.{left, Opened, NoPart, NextPart};
 ghost use Rattle.reader.specs.Words.{text};
 
-use crate::lines::run;
+use crate::lines::cut;
 use crate::shapes::{Line, Part, Parts};
 
+/// The words that a line can begin with.
 #[derive(Clone, Copy)]
 pub enum Word {
     User,
@@ -26,41 +28,26 @@ pub enum Word {
 }
 
 impl<'a> Line<'a> {
-    // The parts of the line, from its first on.
+    /// The parts of the line, from its first on.
     pub fn parts(&self) -> Parts<'a>
         ensures { Opened self.now result }
     {
         Parts {
             line: self.bytes,
-            at: 0,
-            more: true,
+            at: Some(0),
         }
     }
-}
-
-// Where the part from `from` on ends, and where the next one begins.
-fn cut_part(line: &[u8], from: usize) -> (usize, usize)
-    requires { from ≤ length line.now }
-    ensures { CutPart line.now from result.0 result.1 }
-{
-    let end = run(line, from, b' ');
-    if end < line.len() {
-        return (end, end + 1);
-    }
-    (end, end)
 }
 
 impl<'a> Parts<'a> {
-    // Takes the next part, which ends at a space or with the line. None past the last one.
+    /// Takes the next part, which ends at a space or with the line. None past the last one.
+    #[tactic(auto, using(crate::proofs::Pieces::pieces))]
     pub fn next_part(&mut self) -> Option<Part<'a>>
-        ensures { MatchOption result (NoPart self.old self.new) (λ x. NextPart self.old x self.new) }
+        ensures { MatchOption result (NoPart self.old self.new)
+            (λ x. NextPart self.old x self.new) }
     {
-        if !self.more {
-            return None;
-        }
-        let at = self.at;
-        let (end, next) = cut_part(self.line, at);
-        self.more = end < self.line.len();
+        let at = self.at?;
+        let (end, next) = cut(self.line, at, b' ');
         self.at = next;
         Some(Part {
             at,
@@ -69,8 +56,21 @@ impl<'a> Parts<'a> {
     }
 }
 
+/// The parts that are left, one after the other.
+impl<'a> Iterator for Parts<'a> {
+    type Item = Part<'a>;
+
+    ghost next_gives = { λ p o q. MatchOption o (NoPart p q) (λ x. NextPart p x q) };
+
+    ghost remaining = { λ p. at_most (length (left p)) };
+
+    fn next(&mut self) -> Option<Part<'a>> {
+        self.next_part()
+    }
+}
+
 impl Part<'_> {
-    // The word that stands here, if one does.
+    /// The word that stands here, if one does.
     pub fn word(&self) -> Option<Word>
         ensures { Exactly result (λ w. text w ≡ self.now.bytes.now) }
     {
