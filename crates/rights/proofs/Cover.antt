@@ -1,5 +1,6 @@
 -- Laws of cover: it grows with the entries, what it comes from at one table, and its test where tables have levels.
 use Rattle.std.proofs.Common.{◌≡◌, ℕ, zero, suc, ◌≤◌, Bool, false, cond, ◌&&◌, ◌||◌, eqb, leb, ◌⊎◌, List, [], ◌∷◌, Some, None, Decides, Option, sym, refl, ap, ◌∙◌, subst, inl, inr, arith}
+use Rattle.std.specs.List.{list_all, list_any}
 use Rattle.std.proofs.lemmas.Bool.{false≢true, ne_eqb}
 use Rattle.std.proofs.lemmas.Bool.Decides.{Decides-eqb, Decides-and, Decides-or, Decides-like}
 use Rattle.rights.specs.declared.entries.Entry.{Entry}
@@ -12,10 +13,8 @@ use Rattle.rights.specs.Lists.{In, Inside}
 use Rattle.rights.specs.Numbers.{kind_number, rank_number, privilege_number}
 use Rattle.rights.specs.Tables.{Table, Tables, unmade, Names, Levelled, Extends}
 use Rattle.rights.proofs.Checks.{none_some}
-use Rattle.rights.proofs.Deciding.{some_test, each_test, decides_some, decides_each, either_way}
-use Rattle.rights.proofs.Parts.{decides_leb}
+use Rattle.rights.proofs.Deciding.{OrNot, decides_leb, decides_some, decides_each, either_way}
 use Rattle.rights.proofs.Tables.{Low, low_named, low_names_none, levels_of, some_same}
-use Rattle.rights.proofs.Within.{OrNot}
 
 pub privilege_injective : (p q : Privilege) → privilege_number p ≡ privilege_number q → p ≡ q
 privilege_injective p q e = sym (back p) ∙ ap from e ∙ back q
@@ -100,12 +99,12 @@ module _ (tables : Tables) where
     -- what owning a table gives, by a test for the tables that it names
     abbrev pub owned_test : (ℕ → Bool) → Option Table → Bool
     owned_test f None = false
-    owned_test f (Some w) = eqb w.owner x && each_test f w.names
+    owned_test f (Some w) = eqb w.owner x && list_all f w.names
 
     -- the test of cover on a table of level at most n
     abbrev pub covers_test : ℕ → ℕ → Bool
-    covers_test zero t = let owned = owned_test (λ d. false) (tables t) in some_test (lends_test t) entries || owned
-    covers_test (suc n) t = let owned = owned_test (λ d. covers_test n d) (tables t) in some_test (lends_test t) entries || owned
+    covers_test zero t = let owned = owned_test (λ d. false) (tables t) in list_any (lends_test t) entries || owned
+    covers_test (suc n) t = let owned = owned_test (λ d. covers_test n d) (tables t) in list_any (lends_test t) entries || owned
 
     decides_owned : (f : ℕ → Bool) (o : Option Table) → ((w : Table) → o ≡ Some w → (d : ℕ) → In d w.names → Decides (f d) (Covers tables entries x k r p d)) → Decides (owned_test f o) ((w : Table) × (o ≡ Some w) × Owned w)
     decides_owned f None d = ((λ e. absurd (false≢true e)), λ h. absurd (none_some h.0 h.1))
@@ -116,7 +115,7 @@ module _ (tables : Tables) where
         back : (v : Table) → Some w ≡ Some v → Owned v → Owned w
         back v e h = let s : v ≡ w = cc in subst Owned s h
 
-    decides_sources : (f : ℕ → Bool) (t : ℕ) → ((d : ℕ) → Names tables t d → Decides (f d) (Covers tables entries x k r p d)) → Decides (some_test (lends_test t) entries || owned_test f (tables t)) (Covers tables entries x k r p t)
+    decides_sources : (f : ℕ → Bool) (t : ℕ) → ((d : ℕ) → Names tables t d → Decides (f d) (Covers tables entries x k r p d)) → Decides (list_any (lends_test t) entries || owned_test f (tables t)) (Covers tables entries x k r p t)
     decides_sources f t d =
         Decides-like _ (sources_covers t) covers_sources
         (Decides-or _ _ (decides_some (λ e. Lends e x k r p t) (lends_test t) entries (λ e _. decides_lends t e)) (decides_owned f (tables t) (λ w e c i. d c (w, e, i))))

@@ -1,5 +1,6 @@
 -- The laws of holding: it grows with the pairs and with the entries, and tests decide it.
-use Rattle.std.proofs.Common.{◌≡◌, ℕ, Bool, ◌&&◌, ◌||◌, eqb, List, [], ◌∷◌, Some, Decides, ap, inl, inr}
+use Rattle.std.proofs.Common.{◌≡◌, ℕ, Bool, ◌&&◌, ◌||◌, eqb, List, [], Some, Decides, ap, inl, inr}
+use Rattle.std.specs.List.{list_any}
 use Rattle.std.proofs.lemmas.Bool.Decides.{Decides-eqb, Decides-and, Decides-or, Decides-like}
 use Rattle.rights.specs.declared.entries.Entry.{Entry}
 use Rattle.rights.specs.declared.entries.Pair.{Pair}
@@ -15,10 +16,10 @@ use Rattle.rights.specs.Lists.{In, Inside}
 use Rattle.rights.specs.Tables.{Table, Tables, Extends}
 use Rattle.rights.specs.Within.{Within}
 use Rattle.rights.proofs.Bits.{bit_injective}
-use Rattle.rights.proofs.Deciding.{some_test, decides_some, decides_in}
+use Rattle.rights.proofs.Deciding.{decides_some, decides_in}
 use Rattle.rights.proofs.Order.{decides_same}
 use Rattle.rights.proofs.Tables.{base_test, owns_test, decides_base, decides_owns}
-use Rattle.rights.proofs.Within.{within_same, within_none, within_grows, within_more, within_through}
+use Rattle.rights.proofs.Within.{within_grows, within_test, decides_within}
 
 -- more pairs and more entries, more is held
 module _ (ps qs : List Pair) (pairs_in : Inside ps qs) (es fs : List Entry) (entries_in : Inside es fs) where
@@ -52,25 +53,11 @@ pub decides_same_pair : (a b : Pair) → Decides (same_pair a b) (a ≡ b)
 decides_same_pair a b = Decides-like (same_pair a b) (λ h i. record { member = h.0 i; group = h.1 i }) (λ e. (ap (λ x. x.member) e, ap (λ x. x.group) e))
     (Decides-and (eqb a.member b.member) (eqb a.group b.group) (Decides-eqb a.member b.member) (Decides-eqb a.group b.group))
 
-pub decides_entry_in : (e : Entry) (es : List Entry) → Decides (some_test (same_entry e) es) (In e es)
+pub decides_entry_in : (e : Entry) (es : List Entry) → Decides (list_any (same_entry e) es) (In e es)
 decides_entry_in = decides_in same_entry decides_same
 
-pub decides_pair_in : (a : Pair) (ps : List Pair) → Decides (some_test (same_pair a) ps) (In a ps)
+pub decides_pair_in : (a : Pair) (ps : List Pair) → Decides (list_any (same_pair a) ps) (In a ps)
 decides_pair_in = decides_in same_pair decides_same_pair
-
--- s is within g: already by the rest of the pairs, or through the first of them
-abbrev pub within_test : List Pair → ℕ → ℕ → Bool
-within_test [] s g = eqb s g
-within_test (a ∷ ps) s g =
-    let on = within_test ps a.group g in
-    let through = within_test ps s a.member && on in
-    within_test ps s g || through
-
-pub decides_within : (ps : List Pair) (s g : ℕ) → Decides (within_test ps s g) (Within ps s g)
-decides_within [] s g = Decides-like (eqb s g) (within_same [] s g) (within_none s g) (Decides-eqb s g)
-decides_within (a ∷ ps) s g = Decides-like (within_test (a ∷ ps) s g) (within_through ps a.member a.group s g) (within_more ps a.member a.group s g)
-    (Decides-or (within_test ps s g) (within_test ps s a.member && within_test ps a.group g) (decides_within ps s g)
-    (Decides-and (within_test ps s a.member) (within_test ps a.group g) (decides_within ps s a.member) (decides_within ps a.group g)))
 
 abbrev pub gives_test : Entry → Privilege → Sign → ℕ → Strength → Bool
 gives_test e p sign t r = let same = same_right e.right (Right.Access p sign r) in eqb e.table t && same
@@ -80,7 +67,7 @@ decides_gives e p sign t r = Decides-and (eqb e.table t) (same_right e.right (Ri
 
 -- some entry gives it, at a subject that passes the test
 abbrev pub entry_test : (ℕ → Bool) → List Entry → Privilege → Sign → ℕ → Strength → Bool
-entry_test f entries p sign t r = some_test (λ e. let there = f e.subject in gives_test e p sign t r && there) entries
+entry_test f entries p sign t r = list_any (λ e. let there = f e.subject in gives_test e p sign t r && there) entries
 
 pub decides_entry : (P : ℕ → Type 0) (f : ℕ → Bool) → ((s : ℕ) → Decides (f s) (P s)) → (entries : List Entry) (p : Privilege) (sign : Sign) (t : ℕ) (r : Strength) →
     Decides (entry_test f entries p sign t r) ((e : Entry) × In e entries × Gives e p sign t r × P e.subject)

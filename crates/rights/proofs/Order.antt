@@ -1,13 +1,13 @@
 -- Laws of the order of entries: its test decides it, it is strict and total, and same_entry decides equality.
-use Rattle.std.proofs.Common.{◌≡◌, ℕ, ◌<◌, ◌≤◌, Bool, true, leb, ◌⊎◌, List, [], ◌∷◌, Decides, sym, refl, ap, ◌∙◌, inl, inr, ⊎_elim, arith}
-use Rattle.std.specs.List.{list_all, AllByRecursion}
-use Rattle.std.proofs.lemmas.Bool.{cases_order, leb-true, le-leb}
+use Rattle.std.proofs.Common.{◌≡◌, ℕ, ◌<◌, Bool, true, ◌⊎◌, List, [], ◌∷◌, Decides, sym, ap, ◌∙◌, inl, inr, ⊎_elim, arith}
+use Rattle.std.specs.List.{AllByRecursion}
+use Rattle.std.proofs.lemmas.Bool.{cases_order}
 use Rattle.std.proofs.lemmas.Bool.Decides.{Decides-eqb, Decides-ltb, Decides-and, Decides-or, Decides-like}
-use Rattle.std.proofs.ByRecursion.{Decides-by_and}
 use Rattle.rights.specs.declared.entries.Entry.{Entry}
 use Rattle.rights.specs.Bits.{bit}
 use Rattle.rights.specs.Entries.{Then, Before, Proper, RisingEntries, then_test, before, same_entry, proper, sound}
 use Rattle.rights.proofs.Bits.{bit_injective}
+use Rattle.rights.proofs.Deciding.{decides_leb, decides_and_3, decides_all, decided_yes}
 
 pub decides_then : (a b : ℕ) {R : Type 0} (r : Bool) → Decides r R → Decides (then_test a b r) (Then a b R)
 decides_then a b r h = Decides-or _ _ (Decides-ltb a b) (Decides-and _ _ (Decides-eqb a b) h)
@@ -63,23 +63,16 @@ before_total e f =
 
 -- ---- the test of a rising list of proper entries
 
-decides_leb : (a b : ℕ) → Decides (leb a b) (a ≤ b)
-decides_leb a b = (leb-true a b, le-leb a b)
-
 decides_proper : (e : Entry) → Decides (proper e) (Proper e)
 decides_proper e =
-    Decides-like _ (λ h. (h.0, h.1.0, h.1.1)) (λ h. (h.0, (h.1, h.2)))
-    (Decides-and _ _ (Decides-and _ _ (decides_leb _ _) (decides_leb _ _)) (Decides-and _ _ (decides_leb _ _) (Decides-and _ _ (decides_leb _ _) (decides_leb _ _))))
-
-decides_all : (p : Entry → Bool) (P : Entry → Type 0) → ((e : Entry) → Decides (p e) (P e)) → (es : List Entry) → Decides (list_all p es) (AllByRecursion P es)
-decides_all p P each es = Decides-by_and p P (list_all p) each refl (λ _ _. refl) es
+    decides_and_3 _ _ _ (Decides-and _ _ (decides_leb _ _) (decides_leb _ _)) (decides_leb _ _) (Decides-and _ _ (decides_leb _ _) (decides_leb _ _))
 
 decides_sound : (es : List Entry) → Decides (sound es) (RisingEntries es × AllByRecursion Proper es)
 unfolding sound
-decides_sound [] = ((λ _. (tt, tt)), (λ _. refl))
+decides_sound [] = decided_yes (tt, tt)
 decides_sound (e ∷ es) =
     Decides-like _ (λ h. ((h.0.1, h.1.0), (h.0.0, h.1.1))) (λ h. ((h.1.0, h.0.0), (h.0.1, h.1.1)))
-    (Decides-and _ _ (Decides-and _ _ (decides_proper e) (decides_all (before e) (Before e) (decides_before e) es)) (decides_sound es))
+    (Decides-and _ _ (Decides-and _ _ (decides_proper e) (decides_all (Before e) (before e) es (λ f _. decides_before e f))) (decides_sound es))
 
 pub sound_rises : (es : List Entry) → sound es ≡ true → RisingEntries es
 sound_rises es h = ((decides_sound es).0 h).0

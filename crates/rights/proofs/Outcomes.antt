@@ -1,6 +1,7 @@
 -- Every command has an outcome: in a sound history the tests of the rules compute the answer, what is struck and
 -- the next history, which is sound again. So every list of commands has a run from the empty history.
 use Rattle.std.proofs.Common.{◌≡◌, ℕ, ◌≤◌, Bool, true, false, cond, not, eqb, List, [], ◌∷◌, map, length, Some, None, Option, refl, ap, ◌∙◌, subst, inl, inr, arith}
+use Rattle.std.specs.List.{filter}
 use Rattle.std.proofs.lemmas.Bool.{eqb-true, eqb-false, ne_eqb}
 use Rattle.std.proofs.lemmas.Bool.Decides.{Decides-eqb, Decides-not}
 use Rattle.rights.specs.declared.commands.Answer.{Answer}
@@ -25,15 +26,14 @@ use Rattle.rights.specs.Tables.{Table, Tables, made, unmade, Stands, Names, Leve
 use Rattle.rights.proofs.Access.{answer, answers}
 use Rattle.rights.proofs.Chain.{chain_test, others_of, revoked_by}
 use Rattle.rights.proofs.Cover.{supported_test, decides_supported}
-use Rattle.rights.proofs.Deciding.{passing, either_way}
+use Rattle.rights.proofs.Deciding.{decides_leb, stable}
 use Rattle.rights.proofs.Holding.{same_pair, decides_same_pair, decides_pair_in}
 use Rattle.rights.proofs.Order.{decides_before, before_transitive, before_total}
 use Rattle.rights.proofs.Pairs.{pair_before, decides_pair_before, pair_transitive, pair_total}
-use Rattle.rights.proofs.Parts.{failing, parted_by, decides_leb}
+use Rattle.rights.proofs.Parts.{parted_by}
 use Rattle.rights.proofs.Placing.{place, unplace, placed_in, unplaced_in, placed_rises, unplace_rises, kept_rises}
 use Rattle.rights.proofs.Refusals.{Sound, refusal, refusal_first, decides_well_made}
 use Rattle.rights.proofs.Tables.{Low, low_made, low_none}
-use Rattle.rights.proofs.Within.{OrNot}
 
 -- none of the checks applies
 abbrev pub NoneOf : {F : Type 0} → List (Check F) → Type 0
@@ -73,11 +73,11 @@ next h (Command.Admit i m g) = with_pairs (place pair_before (pair m g) h.pairs)
 next h (Command.Remove i m g) = with_pairs (unplace same_pair (pair m g) h.pairs) h
 next h (Command.Base i t) = with_tables (made t (record { owner = i; names = [] }) h.tables) h
 next h (Command.View i t d) = with_tables (made t (record { owner = i; names = tables_in d }) h.tables) h
-next h (Command.Drop i t) = with_tables (unmade t h.tables) (with_entries (passing (λ (e : Entry). not (eqb e.table t)) h.entries) h)
+next h (Command.Drop i t) = with_tables (unmade t h.tables) (with_entries (filter (λ (e : Entry). not (eqb e.table t)) h.entries) h)
 next h (Command.Give i s p sign t strength) = with_entries (place before (access_entry i s p sign t strength) h.entries) h
-next h (Command.Ungive i s p sign t strength) = with_entries (passing (stays h (access_entry i s p sign t strength)) h.entries) h
+next h (Command.Ungive i s p sign t strength) = with_entries (filter (stays h (access_entry i s p sign t strength)) h.entries) h
 next h (Command.Lend i s p t kind rank) = with_entries (place before (admin_entry i s p t kind rank) h.entries) h
-next h (Command.Unlend i s p t kind rank) = with_entries (passing (stays h (admin_entry i s p t kind rank)) h.entries) h
+next h (Command.Unlend i s p t kind rank) = with_entries (filter (stays h (admin_entry i s p t kind rank)) h.entries) h
 next h (Command.May u p t) = h
 
 -- what is struck
@@ -92,9 +92,9 @@ struck_by h (Command.Base i t) = []
 struck_by h (Command.View i t d) = []
 struck_by h (Command.Drop i t) = []
 struck_by h (Command.Give i s p sign t strength) = []
-struck_by h (Command.Ungive i s p sign t strength) = failing (stays h (access_entry i s p sign t strength)) h.entries
+struck_by h (Command.Ungive i s p sign t strength) = filter (λ e. not (stays h (access_entry i s p sign t strength) e)) h.entries
 struck_by h (Command.Lend i s p t kind rank) = []
-struck_by h (Command.Unlend i s p t kind rank) = failing (stays h (admin_entry i s p t kind rank)) h.entries
+struck_by h (Command.Unlend i s p t kind rank) = filter (λ e. not (stays h (admin_entry i s p t kind rank) e)) h.entries
 struck_by h (Command.May u p t) = []
 
 -- how it is answered
@@ -123,10 +123,6 @@ pair_placed = placed_in PairBefore pair_before decides_pair_before pair_transiti
 pair_unplaced : (a : Pair) (ps : List Pair) → Rising PairBefore ps → In a ps → Placed PairBefore a (unplace same_pair a ps) ps
 pair_unplaced = unplaced_in PairBefore pair_before decides_pair_before pair_transitive pair_total same_pair decides_same_pair
 
-stable : {P : Type 0} → OrNot P → ((P → ⊥) → ⊥) → P
-stable (inl p) n = p
-stable (inr q) n = absurd (n q)
-
 module _ (lent : Lent) (h : History) (sound : Sound h) where
   replied : (c : Command) → Accepted h c (struck_by h c) (reply h c)
   unfolding Accepted
@@ -145,7 +141,7 @@ module _ (lent : Lent) (h : History) (sound : Sound h) where
   replied (Command.Unlend i s p t kind rank) = refl
   replied (Command.May u p t) = answers h.pairs h.tables h.entries 7 u (privilege_of p) t (sound.low t)
 
-  revoked : (e : Entry) → Revoked h.tables e h.entries (passing (stays h e) h.entries) (failing (stays h e) h.entries)
+  revoked : (e : Entry) → Revoked h.tables e h.entries (filter (stays h e) h.entries) (filter (λ f. not (stays h e f)) h.entries)
   revoked e = revoked_by h.tables (supported_test h.tables 7) (λ m f. decides_supported h.tables 7 m f (sound.low f.table)) e h.entries
 
   becomes : (c : Command) → NoneOf (checks lent h c) → Becomes h c (struck_by h c) (next h c)
@@ -155,7 +151,7 @@ module _ (lent : Lent) (h : History) (sound : Sound h) where
   becomes Command.Open x = (refl, refl)
   becomes Command.Close x = (refl, refl)
   becomes (Command.Admit i m g) x = (refl, (_, pair_placed (pair m g) h.pairs sound.pairs_rise x.1.1.1.0, refl))
-  becomes (Command.Remove i m g) x = (refl, (_, pair_unplaced (pair m g) h.pairs sound.pairs_rise (stable (either_way _ (decides_pair_in (pair m g) h.pairs)) x.1.1.1.0), refl))
+  becomes (Command.Remove i m g) x = (refl, (_, pair_unplaced (pair m g) h.pairs sound.pairs_rise (stable _ (decides_pair_in (pair m g) h.pairs) x.1.1.1.0), refl))
   becomes (Command.Base i t) x = (refl, refl)
   becomes (Command.View i t d) x = (refl, refl)
   becomes (Command.Drop i t) x = (refl, (_, _, parted_by (λ (e : Entry). e.table ≡ t → ⊥) (λ (e : Entry). not (eqb e.table t)) h.entries (λ e. Decides-not _ (Decides-eqb e.table t)), refl))
@@ -230,7 +226,7 @@ module _ (lent : Lent) (h : History) (sound : Sound h) where
 
   -- a number that is refused where it is greater
   at_most : (n m : ℕ) → ((n ≤ m → ⊥) → ⊥) → n ≤ m
-  at_most n m = stable (either_way _ (decides_leb n m))
+  at_most n m = stable _ (decides_leb n m)
 
   next_sound : (c : Command) → NoneOf (checks lent h c) → Sound (next h c)
   unfolding checks user_checks group_checks base_checks view_checks drop_checks admit_checks remove_checks give_checks lend_checks grant_checks WellMade Revoked
@@ -242,7 +238,7 @@ module _ (lent : Lent) (h : History) (sound : Sound h) where
   next_sound (Command.Remove i m g) x = with_pairs_sound _ (unplace_rises PairBefore pair_before decides_pair_before pair_transitive pair_total same_pair (pair m g) h.pairs sound.pairs_rise)
   next_sound (Command.Base i t) x = with_table_sound t 0 _ (at_most t 127 (λ k. x.0 (λ r. k r.1))) x.1.1.1.0 over_none (omega arith)
   next_sound (Command.View i t d) x =
-      let made_up = (stable (either_way _ (decides_well_made h.tables (tables_in d))) x.1.1.1.1.1.0).3 in
+      let made_up = (stable _ (decides_well_made h.tables (tables_in d)) x.1.1.1.1.1.0).3 in
       with_table_sound t made_up.0 _ (at_most t 127 (λ k. x.0 (λ r. k r.1))) x.1.1.1.1.0 made_up.1 made_up.2
   next_sound (Command.Drop i t) x =
       record {

@@ -4,7 +4,7 @@ use Rattle.std.proofs.lemmas.Bool.{cases_order, cases_eq}
 use Rattle.std.proofs.lemmas.Bool.Decides.{Decides-eqb, Decides-ltb, Decides-and, Decides-or, Decides-not, Decides-like}
 use Rattle.rights.specs.declared.entries.Pair.{Pair}
 use Rattle.rights.specs.Pairs.{Before}
-use Rattle.rights.proofs.Parts.{decides_leb}
+use Rattle.rights.proofs.Deciding.{decides_leb}
 
 abbrev pub pair_before : Pair → Pair → Bool
 pair_before a b = leb a.member b.member && (not (eqb a.member b.member) || ltb a.group b.group)

@@ -3,7 +3,7 @@ use Rattle.std.proofs.Common.{◌≡◌, Bool, true, false, cond, ◌⊎◌, Lis
 use Rattle.std.specs.List.{AllByRecursion}
 use Rattle.std.proofs.lemmas.Bool.Decides.{not_from_Decides}
 use Rattle.rights.specs.Lists.{In, Rising, Placed, Parted, none, keep, leave}
-use Rattle.rights.proofs.Parts.{all_in, in_all}
+use Rattle.rights.proofs.Deciding.{all_in, in_all}
 
 -- xs with x before the first element that it comes before
 abbrev pub place : {X : Type 0} → (X → X → Bool) → X → List X → List X

@@ -1,7 +1,7 @@
 -- Every condition of every list of refusals has a test that decides it, in a history of which the numbers
 -- are in their ranges and the tables have levels of at most 7.
 use Rattle.std.proofs.Common.{◌≡◌, ℕ, zero, suc, ◌+◌, ◌<◌, ◌≤◌, max, Bool, true, false, not, ◌&&◌, ◌||◌, eqb, ltb, leb, List, [], ◌∷◌, map, length, Some, None, Decides, Option, sym, refl, ap, subst, inl, inr, true≢false, arith}
-use Rattle.std.specs.List.{AllByRecursion}
+use Rattle.std.specs.List.{list_all, list_any}
 use Rattle.std.proofs.lemmas.Bool.Decides.{Decides-eqb, Decides-ltb, Decides-and, Decides-or, Decides-not, Decides-like, Decides-below_or}
 use Rattle.rights.specs.declared.commands.Command.{Command}
 use Rattle.rights.specs.declared.commands.State.{State}
@@ -47,16 +47,10 @@ use Rattle.rights.specs.Tables.{Table, Tables, Stands, Names, Level, level, Leve
 use Rattle.rights.proofs.Checks.{Decided, first_of, first_decided}
 use Rattle.rights.proofs.Clash.{candidates, clash_test, decides_clashing}
 use Rattle.rights.proofs.Cover.{supported_test, decides_supported}
-use Rattle.rights.proofs.Deciding.{some_test, each_test, decides_each, decides_always}
-use Rattle.rights.proofs.Holding.{same_pair, decides_entry_in, decides_pair_in, within_test, decides_within}
-use Rattle.rights.proofs.Parts.{decides_leb, all_in, in_all}
+use Rattle.rights.proofs.Deciding.{decided_yes, decided_no, decides_leb, decides_and_3, decides_and_4, decides_all, decides_each}
+use Rattle.rights.proofs.Holding.{same_pair, decides_entry_in, decides_pair_in}
 use Rattle.rights.proofs.Tables.{Low, table_test, decides_table, view_test, decides_view, owns_test, decides_owns, names_test, decides_names}
-
-decides_and_3 : {P Q R : Type 0} (x y z : Bool) → Decides x P → Decides y Q → Decides z R → Decides (x && (y && z)) (P × Q × R)
-decides_and_3 x y z a b c = Decides-like _ (λ h. (h.0, h.1.0, h.1.1)) (λ h. (h.0, (h.1, h.2))) (Decides-and x (y && z) a (Decides-and y z b c))
-
-decides_and_4 : {P Q R S : Type 0} (x y z w : Bool) → Decides x P → Decides y Q → Decides z R → Decides w S → Decides (x && (y && (z && w))) (P × Q × R × S)
-decides_and_4 x y z w a b c d = Decides-like _ (λ h. (h.0, h.1.0, h.1.1.0, h.1.1.1)) (λ h. (h.0, (h.1, (h.2, h.3)))) (Decides-and x (y && (z && w)) a (Decides-and y (z && w) b (Decides-and z w c d)))
+use Rattle.rights.proofs.Within.{within_test, decides_within}
 
 -- what is registered
 abbrev pub registered_test : Option Subject → Bool
@@ -117,16 +111,13 @@ module _ (subjects : Subjects) where
   decides_no_mark : (i : ℕ) → Decides (no_mark_test i) (NoMark subjects i)
   decides_no_mark i = Decides-or _ _ (Decides-eqb i 0) (Decides-not _ (decides_creator (subjects i)))
 
-decides_all : {X : Type 0} (P : X → Type 0) (f : X → Bool) (xs : List X) → ((x : X) → Decides (f x) (P x)) → Decides (each_test f xs) (AllByRecursion P xs)
-decides_all P f xs d = Decides-like _ (in_all P xs) (all_in P xs) (decides_each P f xs (λ x _. d x))
-
 abbrev pub rising_test : List ℕ → Bool
 rising_test [] = true
-rising_test (d ∷ ds) = each_test (λ c. ltb d c) ds && rising_test ds
+rising_test (d ∷ ds) = list_all (λ c. ltb d c) ds && rising_test ds
 
 decides_rising : (ds : List ℕ) → Decides (rising_test ds) (Rising ◌<◌ ds)
-decides_rising [] = decides_always
-decides_rising (d ∷ ds) = Decides-and _ _ (decides_all (λ c. d < c) (λ c. ltb d c) ds (λ c. Decides-ltb d c)) (decides_rising ds)
+decides_rising [] = decided_yes tt
+decides_rising (d ∷ ds) = Decides-and _ _ (decides_all (λ c. d < c) (λ c. ltb d c) ds (λ c _. Decides-ltb d c)) (decides_rising ds)
 
 -- levels
 module _ (tables : Tables) where
@@ -134,7 +125,7 @@ module _ (tables : Tables) where
   stands_test t = table_test (λ r. true) (tables t)
 
   decides_stands : (t : ℕ) → Decides (stands_test t) (Stands tables t)
-  decides_stands t = Decides-like _ (λ h. (h.0, h.1)) (λ h. (h.0, h.1, tt)) (decides_table (λ r. Unit {0}) (λ r. true) (λ r. decides_always) (tables t))
+  decides_stands t = Decides-like _ (λ h. (h.0, h.1)) (λ h. (h.0, h.1, tt)) (decides_table (λ r. Unit {0}) (λ r. true) (λ r. decided_yes tt) (tables t))
 
   abbrev LevelUnder : ℕ → ℕ → Type 0
   LevelUnder n t = (k : ℕ) × Level tables t k × (k < n)
@@ -159,13 +150,13 @@ module _ (tables : Tables) where
   -- the table stands, and every table that it names has a level below n
   abbrev pub level_test : ℕ → ℕ → Bool
   level_test zero t = false
-  level_test (suc n) t = table_test (λ r. each_test (λ d. level_test n d) r.names) (tables t)
+  level_test (suc n) t = table_test (λ r. list_all (λ d. level_test n d) r.names) (tables t)
 
   decides_level : (n t : ℕ) → Decides (level_test n t) (LevelUnder n t)
   decides_level zero t = ((λ e. absurd (true≢false (sym e))), λ h. absurd (let lt = h.2 in omega arith))
   decides_level (suc n) t =
       Decides-like _ out (λ h. back h.1 h.2)
-      (decides_table (λ r. (d : ℕ) → In d r.names → LevelUnder n d) (λ r. each_test (λ d. level_test n d) r.names) (λ r. decides_each (λ d. LevelUnder n d) (λ d. level_test n d) r.names (λ d _. decides_level n d)) (tables t))
+      (decides_table (λ r. (d : ℕ) → In d r.names → LevelUnder n d) (λ r. list_all (λ d. level_test n d) r.names) (λ r. decides_each (λ d. LevelUnder n d) (λ d. level_test n d) r.names (λ d _. decides_level n d)) (tables t))
     where
       Stood : Type 0
       Stood = (r : Table) × (tables t ≡ Some r) × ((d : ℕ) → In d r.names → LevelUnder n d)
@@ -176,11 +167,11 @@ module _ (tables : Tables) where
       back : {k : ℕ} → Level tables t k → k < suc n → Stood
       back (level {r = r} e over) lt = (r, e, over_each over n (omega arith))
 
-  decides_over : (n : ℕ) (ds : List ℕ) → Decides (each_test (λ d. level_test n d) ds) (OverAtMost n ds)
+  decides_over : (n : ℕ) (ds : List ℕ) → Decides (list_all (λ d. level_test n d) ds) (OverAtMost n ds)
   decides_over n ds = Decides-like _ (each_over n ds) (λ h. over_each h.1 n h.2) (decides_each (λ d. LevelUnder n d) (λ d. level_test n d) ds (λ d _. decides_level n d))
 
   abbrev pub well_made_test : List ℕ → Bool
-  well_made_test ds = leb 1 (length ds) && (leb (length ds) 8 && (rising_test ds && each_test (λ d. level_test 7 d) ds))
+  well_made_test ds = leb 1 (length ds) && (leb (length ds) 8 && (rising_test ds && list_all (λ d. level_test 7 d) ds))
 
   pub decides_well_made : (ds : List ℕ) → Decides (well_made_test ds) (WellMade tables ds)
   unfolding WellMade
@@ -220,7 +211,7 @@ module _ (lent : Lent) (h : History) where
 
   abbrev pub revoke_tests : (Option Subject → Bool) → Bool → ℕ → ℕ → ℕ → Entry → List Bool
   revoke_tests recipient in_range i s t e =
-      ltb lent.slate 4096 ∷ ltb lent.list (length h.entries) ∷ grant_tests recipient in_range i s t (not (some_test (same_entry e) h.entries) ∷ [])
+      ltb lent.slate 4096 ∷ ltb lent.list (length h.entries) ∷ grant_tests recipient in_range i s t (not (list_any (same_entry e) h.entries) ∷ [])
 
   abbrev pub pair_tests : ℕ → ℕ → ℕ → List Bool → List Bool
   pair_tests i m g more =
@@ -237,17 +228,17 @@ module _ (lent : Lent) (h : History) where
   tests Command.Close = []
   tests (Command.Admit i m g) =
       pair_tests i m g (
-      some_test (same_pair (pair m g)) h.pairs ∷
+      list_any (same_pair (pair m g)) h.pairs ∷
       within_test h.pairs g m ∷
       eqb (length h.pairs) lent.roll_ceiling ∷
       clash_test (pair m g ∷ h.pairs) h.tables h.entries (λ t. 7) (candidates (pair m g ∷ h.pairs) h.tables h.entries) ∷
       [])
-  tests (Command.Remove i m g) = pair_tests i m g (not (some_test (same_pair (pair m g)) h.pairs) ∷ [])
+  tests (Command.Remove i m g) = pair_tests i m g (not (list_any (same_pair (pair m g)) h.pairs) ∷ [])
   tests (Command.Base i t) = not (leb i 255 && leb t 127) ∷ strange_test h.subjects i ∷ no_mark_test h.subjects i ∷ stands_test h.tables t ∷ []
   tests (Command.View i t d) =
-      not (leb i 255 && (leb t 127 && each_test (λ c. leb c 127) (tables_in d))) ∷
+      not (leb i 255 && (leb t 127 && list_all (λ c. leb c 127) (tables_in d))) ∷
       strange_test h.subjects i ∷
-      not (each_test (stands_test h.tables) (tables_in d)) ∷
+      not (list_all (stands_test h.tables) (tables_in d)) ∷
       no_mark_test h.subjects i ∷
       stands_test h.tables t ∷
       not (well_made_test h.tables (tables_in d)) ∷
@@ -262,7 +253,7 @@ module _ (lent : Lent) (h : History) where
   tests (Command.Give i s p sign t strength) =
       let e = access_entry i s p sign t strength in
       grant_tests registered_test (access_range p sign strength) i s t (
-      some_test (same_entry e) h.entries ∷
+      list_any (same_entry e) h.entries ∷
       not (supported_test h.tables 7 h.entries e) ∷
       (eqb sign 1 && view_test h.tables t) ∷
       full_test ∷
@@ -271,7 +262,7 @@ module _ (lent : Lent) (h : History) where
   tests (Command.Ungive i s p sign t strength) = revoke_tests registered_test (access_range p sign strength) i s t (access_entry i s p sign t strength)
   tests (Command.Lend i s p t kind rank) =
       let e = admin_entry i s p t kind rank in
-      grant_tests person_test (access_range p kind rank) i s t (some_test (same_entry e) h.entries ∷ not (supported_test h.tables 7 h.entries e) ∷ full_test ∷ [])
+      grant_tests person_test (access_range p kind rank) i s t (list_any (same_entry e) h.entries ∷ not (supported_test h.tables 7 h.entries e) ∷ full_test ∷ [])
   tests (Command.Unlend i s p t kind rank) = revoke_tests person_test (access_range p kind rank) i s t (admin_entry i s p t kind rank)
   tests (Command.May u p t) =
       ltb lent.slate 4096 ∷
@@ -365,11 +356,11 @@ module _ (lent : Lent) (h : History) where
     tests_decide (Command.Base i t) =
         (Decides-not _ (Decides-and _ _ (decides_leb i 255) (decides_leb t 127)), (decides_strange h.subjects i, (decides_no_mark h.subjects i, (decides_stands h.tables t, tt))))
     tests_decide (Command.View i t d) = (
-      Decides-not _ (decides_and_3 _ _ _ (decides_leb i 255) (decides_leb t 127) (decides_all (λ c. c ≤ 127) (λ c. leb c 127) (tables_in d) (λ c. decides_leb c 127))),
+      Decides-not _ (decides_and_3 _ _ _ (decides_leb i 255) (decides_leb t 127) (decides_all (λ c. c ≤ 127) (λ c. leb c 127) (tables_in d) (λ c _. decides_leb c 127))),
       (
         decides_strange h.subjects i,
         (
-          Decides-not _ (decides_all (Stands h.tables) (stands_test h.tables) (tables_in d) (decides_stands h.tables)),
+          Decides-not _ (decides_all (Stands h.tables) (stands_test h.tables) (tables_in d) (λ c _. decides_stands h.tables c)),
           (
             decides_no_mark h.subjects i,
             (
@@ -459,19 +450,16 @@ turn_test State.Closed preparing = false
 turn_test State.Closed working = false
 turn_test State.Closed asking = true
 
-decides_never : Decides false ⊥
-decides_never = ((λ e. absurd (true≢false (sym e))), λ h. absurd h)
-
 decides_turn : (s : State) (w : Turn) → Decides (turn_test s w) (InTurn s w)
-decides_turn State.SettingUp preparing = decides_always
-decides_turn State.SettingUp working = decides_never
-decides_turn State.SettingUp asking = decides_never
-decides_turn State.Open preparing = decides_never
-decides_turn State.Open working = decides_always
-decides_turn State.Open asking = decides_always
-decides_turn State.Closed preparing = decides_never
-decides_turn State.Closed working = decides_never
-decides_turn State.Closed asking = decides_always
+decides_turn State.SettingUp preparing = decided_yes tt
+decides_turn State.SettingUp working = decided_no (λ h. h)
+decides_turn State.SettingUp asking = decided_no (λ h. h)
+decides_turn State.Open preparing = decided_no (λ h. h)
+decides_turn State.Open working = decided_yes tt
+decides_turn State.Open asking = decided_yes tt
+decides_turn State.Closed preparing = decided_no (λ h. h)
+decides_turn State.Closed working = decided_no (λ h. h)
+decides_turn State.Closed asking = decided_yes tt
 
 decided_map : (cs : List (Check RegisterFault)) (bs : List Bool) → Decided cs bs → Decided (map (λ (k : Check RegisterFault). refuse (SheetFault.Register k.gives) k.when) cs) bs
 decided_map [] [] d = tt

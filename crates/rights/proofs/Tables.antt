@@ -1,12 +1,13 @@
 -- The laws of tables: beneath is transitive, a level is unique and falls from a view to what it names,
 -- and tests that decide what stands, what a table names and what is beneath it.
 use Rattle.std.proofs.Common.{◌≡◌, ℕ, zero, suc, ◌+◌, ◌<◌, ◌≤◌, max, Bool, true, false, cond, not, ◌||◌, eqb, ◌⊎◌, List, [], ◌∷◌, Some, None, Decides, Option, sym, refl, ap, ◌∙◌, subst, ap₂, inl, inr, ⊎_elim, true≢false, arith}
+use Rattle.std.specs.List.{list_any}
 use Rattle.std.proofs.lemmas.Bool.{eqb-true}
 use Rattle.std.proofs.lemmas.Bool.Decides.{Decides-eqb, Decides-or, Decides-not, Decides-like}
 use Rattle.rights.specs.Lists.{In}
 use Rattle.rights.specs.Tables.{Table, Tables, no_tables, made, unmade, Stands, IsBase, IsView, Owns, Names, Beneath, named, deeper, Level, level, LevelOver, over_none, over_more, Levelled, Extends}
 use Rattle.rights.proofs.Checks.{none_some}
-use Rattle.rights.proofs.Deciding.{some_test, decides_some, decides_in, either_way}
+use Rattle.rights.proofs.Deciding.{decides_some, decides_in, either_way}
 
 pub some_same : {X : Type 0} (x y : X) → Some x ≡ Some y → x ≡ y
 some_same x y e = cc
@@ -99,7 +100,7 @@ module _ (tables : Tables) where
   owns_test x t = table_test (λ r. eqb r.owner x) (tables t)
 
   abbrev pub names_test : ℕ → ℕ → Bool
-  names_test v t = table_test (λ r. some_test (eqb t) r.names) (tables v)
+  names_test v t = table_test (λ r. list_any (eqb t) r.names) (tables v)
 
   pub decides_base : (t : ℕ) → Decides (base_test t) (IsBase tables t)
   decides_base t = decides_table (λ r. r.names ≡ []) (λ r. empty_test r.names) (λ r. decides_empty r.names) (tables t)
@@ -111,7 +112,7 @@ module _ (tables : Tables) where
   decides_owns x t = decides_table (λ r. r.owner ≡ x) (λ r. eqb r.owner x) (λ r. Decides-eqb r.owner x) (tables t)
 
   pub decides_names : (v t : ℕ) → Decides (names_test v t) (Names tables v t)
-  decides_names v t = decides_table (λ r. In t r.names) (λ r. some_test (eqb t) r.names) (λ r. decides_in eqb Decides-eqb t r.names) (tables v)
+  decides_names v t = decides_table (λ r. In t r.names) (λ r. list_any (eqb t) r.names) (λ r. decides_in eqb Decides-eqb t r.names) (tables v)
 
 -- the tables that a table names, none where nothing stands
 abbrev pub names_of : Option Table → List ℕ
@@ -149,7 +150,7 @@ module _ (tables : Tables) where
   -- b is beneath t, looked for through n levels
   abbrev pub beneath_test : ℕ → ℕ → ℕ → Bool
   beneath_test zero b t = false
-  beneath_test (suc n) b t = some_test (λ d. let deep = beneath_test n b d in eqb b d || deep) (names_of (tables t))
+  beneath_test (suc n) b t = list_any (λ d. let deep = beneath_test n b d in eqb b d || deep) (names_of (tables t))
 
   pub decides_beneath : (n b t : ℕ) → Low tables n t → Decides (beneath_test n b t) (Beneath tables b t)
   decides_beneath zero b t low = (λ e. absurd (true≢false (sym e)), λ q. let n = beneath_names tables q in absurd (low_names_none t n.0 low n.1))
