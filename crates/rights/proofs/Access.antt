@@ -1,8 +1,9 @@
 -- The laws of access: weak entries reach along the pairs that are not blocked, tests decide each rule,
 -- every question has exactly one answer, and the rules give yes exactly where that answer is a yes.
-use Rattle.std.proofs.Common.{◌≡◌, ℕ, zero, suc, Bool, true, false, cond, not, ◌&&◌, ◌||◌, ◌⊎◌, List, [], ◌∷◌, Some, Decides, sym, refl, subst, inl, inr, ⊎_elim, true≢false}
+use Rattle.std.proofs.Common.{◌≡◌, ℕ, zero, suc, Bool, true, false, cond, not, ◌&&◌, ◌||◌, ◌⊎◌, List, [], ◌∷◌, Some, Decides, sym, refl, subst, inl, inr, ⊎_elim}
 use Rattle.std.specs.List.{filter, list_all, list_any}
 use Rattle.std.proofs.lemmas.Bool.Decides.{Decides-and, Decides-or, Decides-not, Decides-like}
+use Rattle.std.proofs.lemmas.Option.{same_Some}
 use Rattle.rights.specs.declared.commands.Answer.{Answer}
 use Rattle.rights.specs.declared.commands.Ground.{Ground}
 use Rattle.rights.specs.declared.entries.Entry.{Entry}
@@ -18,10 +19,10 @@ use Rattle.rights.specs.Pairs.{pair}
 use Rattle.rights.specs.Tables.{Tables, IsBase, IsView, Names, Beneath, Levelled}
 use Rattle.rights.specs.Within.{Path, here, step, Within}
 use Rattle.rights.proofs.Checks.{first_unique, first_decided}
-use Rattle.rights.proofs.Deciding.{in_filter, filter_in, decides_some, decides_each, decided_yes, either_way}
+use Rattle.rights.proofs.Deciding.{in_filter, filter_in, decides_some, decides_each, decided_yes, decided_no, either_way}
 use Rattle.rights.proofs.Grounds.{Says, answers_says, says_answers}
 use Rattle.rights.proofs.Holding.{holds_test, strong_plus_test, strong_minus_test, weak_at_test, decides_holds, decides_strong_plus, decides_strong_minus, decides_weak_at}
-use Rattle.rights.proofs.Tables.{Low, base_test, view_test, owns_test, beneath_test, names_of, decides_base, decides_view, decides_owns, decides_beneath, names_in, in_names, low_named, low_names_none, levels_of, some_same}
+use Rattle.rights.proofs.Tables.{Low, base_test, view_test, owns_test, beneath_test, names_of, decides_base, decides_view, decides_owns, decides_beneath, names_in, in_names, low_named, low_names_none, levels_of}
 use Rattle.rights.proofs.Within.{within_refl, within_step, within_back}
 
 -- a path with the property at every subject but the last is a path along the pairs whose member has it
@@ -152,7 +153,7 @@ module _ (pairs : List Pair) (tables : Tables) (entries : List Entry) where
 
   pub decides_by_names : (n u : ℕ) (p : Privilege) (t : ℕ) → Low tables n t → Decides (by_names_test n u p t) (ByNames pairs tables entries u p t)
   unfolding ByNames
-  decides_by_names zero u p t low = (λ e. absurd (true≢false (sym e)), λ h. let d = view_names t h.0 in absurd (low_names_none tables t d.0 low d.1))
+  decides_by_names zero u p t low = decided_no (λ h. let d = view_names t h.0 in low_names_none tables t d.0 low d.1)
   decides_by_names (suc n) u p t low = Decides-like (by_names_test (suc n) u p t)
       (λ h. (h.0, h.1.0, λ d i. h.1.1 d (names_in tables t d i)))
       (λ h. (h.0, (h.1, λ d i. h.2 d (in_names tables t d i))))
@@ -167,7 +168,7 @@ module _ (pairs : List Pair) (tables : Tables) (entries : List Entry) where
   -- two answers to one question are equal
   pub answers_unique : (u : ℕ) (p : Privilege) (t : ℕ) (a b : Answer) → Answers pairs tables entries u p t a → Answers pairs tables entries u p t b → a ≡ b
   unfolding Answers
-  answers_unique u p t a b h k = some_same a b (first_unique (rules pairs tables entries u p t) (Some a) (Some b) h k)
+  answers_unique u p t a b h k = same_Some a b (first_unique (rules pairs tables entries u p t) (Some a) (Some b) h k)
 
   -- the answer by the tests
   abbrev pub answer : ℕ → ℕ → Privilege → ℕ → Answer

@@ -1,9 +1,11 @@
 -- Tests and what they decide: either way of a property, that some or every element of a list has it,
 -- and which elements a filter keeps.
-use Rattle.std.proofs.Common.{◌≡◌, ℕ, ◌≤◌, Bool, true, false, leb, ◌&&◌, ◌⊎◌, List, [], ◌∷◌, Decides, sym, refl, ap, ◌∙◌, subst, inl, inr, ⊎_elim}
+use Rattle.std.proofs.Common.{◌≡◌, ℕ, ◌≤◌, Bool, true, false, leb, ◌&&◌, ◌⊎◌, List, [], ◌∷◌, Some, None, Decides, Option, sym, refl, ap, ◌∙◌, subst, inl, inr, ⊎_elim}
 use Rattle.std.specs.List.{AllByRecursion, filter, list_any, list_all}
+use Rattle.std.specs.Option.{is_some, unwrap_or, option_map}
 use Rattle.std.proofs.lemmas.Bool.{false≢true, both_ways, leb-true, le-leb, cond_both}
 use Rattle.std.proofs.lemmas.Bool.Decides.{Decides-and, Decides-or, Decides-like, not_from_Decides}
+use Rattle.std.proofs.lemmas.Option.{none-some, same_Some}
 use Rattle.rights.specs.Lists.{In}
 
 abbrev pub OrNot : Type 0 → Type 0
@@ -32,6 +34,18 @@ decides_and_3 x y z a b c = Decides-like _ (λ h. (h.0, h.1.0, h.1.1)) (λ h. (h
 
 pub decides_and_4 : {P Q R S : Type 0} (x y z w : Bool) → Decides x P → Decides y Q → Decides z R → Decides w S → Decides (x && (y && (z && w))) (P × Q × R × S)
 decides_and_4 x y z w a b c d = Decides-like _ (λ h. (h.0, h.1.0, h.1.1, h.1.2)) (λ h. (h.0, (h.1, h.2, h.3))) (Decides-and x (y && (z && w)) a (decides_and_3 y z w b c d))
+
+-- something stands there, or something that passes the test
+pub decides_is_some : {X : Type 0} (o : Option X) → Decides (is_some o) ((x : X) × (o ≡ Some x))
+decides_is_some None = decided_no (λ h. none-some h.0 h.1)
+decides_is_some (Some x) = decided_yes (x, refl)
+
+abbrev pub passes : {X : Type 0} → (X → Bool) → Option X → Bool
+passes f o = unwrap_or (option_map f o) false
+
+pub decides_passes : {X : Type 0} (P : X → Type 0) (f : X → Bool) (o : Option X) → ((x : X) → o ≡ Some x → Decides (f x) (P x)) → Decides (passes f o) ((x : X) × (o ≡ Some x) × P x)
+decides_passes P f None d = decided_no (λ h. none-some h.0 h.1)
+decides_passes P f (Some x) d = Decides-like (f x) (λ p. (x, refl, p)) (λ h. subst P (sym (same_Some x h.0 h.1)) h.2) (d x refl)
 
 module _ {X : Type 0} where
   -- some element has the property

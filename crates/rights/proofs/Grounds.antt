@@ -1,5 +1,6 @@
 -- What each answer to a question says: the rule that its ground stands for applies, and no earlier one does.
 use Rattle.std.proofs.Common.{◌≡◌, ℕ, List, Some, sym, refl, subst, inl, inr, ⊎_elim}
+use Rattle.std.proofs.lemmas.Option.{same_Some}
 use Rattle.rights.specs.declared.commands.Answer.{Answer}
 use Rattle.rights.specs.declared.commands.Ground.{Ground}
 use Rattle.rights.specs.declared.entries.Entry.{Entry}
@@ -9,7 +10,6 @@ use Rattle.rights.specs.Access.{Denied, Weakly, ByNames, rules, Answers}
 use Rattle.rights.specs.Checks.{First}
 use Rattle.rights.specs.Holding.{StrongPlus}
 use Rattle.rights.specs.Tables.{Tables}
-use Rattle.rights.proofs.Tables.{some_same}
 
 module _ (pairs : List Pair) (tables : Tables) (entries : List Entry) (u : ℕ) (p : Privilege) (t : ℕ) where
   abbrev NoStrong : Type 0
@@ -35,7 +35,7 @@ module _ (pairs : List Pair) (tables : Tables) (entries : List Entry) (u : ℕ) 
       (λ q. ⊎_elim (λ e. so (Answer.No Ground.Nothing) e.1 ((k.0, l.0), m.0, q.0)) (λ e. absurd (e.0 tt)) q.1) m.1) l.1) k.1) h
     where
       so : (b : Answer) → Some a ≡ Some b → Says b → Says a
-      so b e s = subst Says (sym (some_same a b e)) s
+      so b e s = subst Says (sym (same_Some a b e)) s
 
   pub says_answers : (a : Answer) → Says a → Answers pairs tables entries u p t a
   unfolding Answers rules First

@@ -1,95 +1,55 @@
 -- Every condition of every list of refusals has a test that decides it, in a history of which the numbers
 -- are in their ranges and the tables have levels of at most 7.
-use Rattle.std.proofs.Common.{◌≡◌, ℕ, zero, suc, ◌+◌, ◌<◌, ◌≤◌, max, Bool, true, false, not, ◌&&◌, ◌||◌, eqb, ltb, leb, List, [], ◌∷◌, map, length, Some, None, Decides, Option, sym, refl, ap, subst, inl, inr, true≢false, arith}
+use Rattle.std.proofs.Common.{◌≡◌, ℕ, zero, suc, ◌+◌, ◌<◌, ◌≤◌, max, Bool, true, false, not, ◌&&◌, ◌||◌, eqb, ltb, leb, List, [], ◌∷◌, length, Some, Decides, Option, sym, refl, ap, subst, inl, inr, arith}
 use Rattle.std.specs.List.{list_all, list_any}
+use Rattle.std.specs.Option.{is_some}
 use Rattle.std.proofs.lemmas.Bool.Decides.{Decides-eqb, Decides-ltb, Decides-and, Decides-or, Decides-not, Decides-like, Decides-below_or}
 use Rattle.rights.specs.declared.commands.Command.{Command}
 use Rattle.rights.specs.declared.commands.State.{State}
 use Rattle.rights.specs.declared.entries.Entry.{Entry}
 use Rattle.rights.specs.declared.faults.RegisterFault.{RegisterFault}
-use Rattle.rights.specs.declared.faults.SheetFault.{SheetFault}
 use Rattle.rights.specs.declared.records.Subject.{Subject}
-use Rattle.rights.specs.Checks.{Check, First, refuse}
+use Rattle.rights.specs.Checks.{Check, First}
 use Rattle.rights.specs.Entries.{Before, same_entry}
 use Rattle.rights.specs.History.{History}
 use Rattle.rights.specs.Lists.{In, Rising}
 use Rattle.rights.specs.Pairs.{pair, Before as PairBefore}
 use Rattle.rights.specs.Read.{access_entry, admin_entry, tables_in}
-use Rattle.rights.specs.Refusals.{
-  Lent,
-  Turn,
-  preparing,
-  working,
-  asking,
-  turn,
-  InTurn,
-  StrangeIssuer,
-  NoMark,
-  WellMade,
-  user_checks,
-  group_checks,
-  open_checks,
-  base_checks,
-  view_checks,
-  drop_checks,
-  admit_checks,
-  remove_checks,
-  grant_checks,
-  give_checks,
-  lend_checks,
-  revoke_checks,
-  may_checks,
-  checks,
-  sheet_checks,
-}
+use Rattle.rights.specs.Refusals.{Lent, Turn, preparing, working, asking, InTurn, StrangeIssuer, NoMark, WellMade, user_checks, group_checks, open_checks, base_checks, view_checks, drop_checks, admit_checks, remove_checks, grant_checks, give_checks, lend_checks, revoke_checks, may_checks, checks}
 use Rattle.rights.specs.Subjects.{Subjects, Registered, IsPerson}
 use Rattle.rights.specs.Tables.{Table, Tables, Stands, Names, Level, level, LevelOver, over_none, over_more}
 use Rattle.rights.proofs.Checks.{Decided, first_of, first_decided}
 use Rattle.rights.proofs.Clash.{candidates, clash_test, decides_clashing}
 use Rattle.rights.proofs.Cover.{supported_test, decides_supported}
-use Rattle.rights.proofs.Deciding.{decided_yes, decided_no, decides_leb, decides_and_3, decides_and_4, decides_all, decides_each}
+use Rattle.rights.proofs.Deciding.{decided_yes, decided_no, decides_is_some, passes, decides_passes, decides_leb, decides_and_3, decides_and_4, decides_all, decides_each}
 use Rattle.rights.proofs.Holding.{same_pair, decides_entry_in, decides_pair_in}
-use Rattle.rights.proofs.Tables.{Low, table_test, decides_table, view_test, decides_view, owns_test, decides_owns, names_test, decides_names}
+use Rattle.rights.proofs.Tables.{Low, view_test, decides_view, owns_test, decides_owns, names_test, decides_names}
 use Rattle.rights.proofs.Within.{within_test, decides_within}
 
 -- what is registered
-abbrev pub registered_test : Option Subject → Bool
-registered_test None = false
-registered_test (Some r) = true
-
 abbrev pub person_test : Option Subject → Bool
-person_test None = false
 person_test (Some (Subject.Person mark)) = true
-person_test (Some Subject.Group) = false
+person_test _ = false
 
 abbrev pub group_test : Option Subject → Bool
-group_test None = false
-group_test (Some (Subject.Person mark)) = false
 group_test (Some Subject.Group) = true
+group_test _ = false
 
 abbrev pub creator_test : Option Subject → Bool
-creator_test None = false
 creator_test (Some (Subject.Person mark)) = mark
-creator_test (Some Subject.Group) = false
-
-decides_registered : (o : Option Subject) → Decides (registered_test o) ((r : Subject) × (o ≡ Some r))
-decides_registered None = ((λ e. absurd (true≢false (sym e))), λ h. ap registered_test h.1)
-decides_registered (Some r) = ((λ e. (r, refl)), λ h. refl)
+creator_test _ = false
 
 decides_person : (o : Option Subject) → Decides (person_test o) ((mark : Bool) × (o ≡ Some (Subject.Person mark)))
-decides_person None = ((λ e. absurd (true≢false (sym e))), λ h. ap person_test h.1)
-decides_person (Some (Subject.Person mark)) = ((λ e. (mark, refl)), λ h. refl)
-decides_person (Some Subject.Group) = ((λ e. absurd (true≢false (sym e))), λ h. ap person_test h.1)
+decides_person (Some (Subject.Person mark)) = decided_yes (mark, refl)
+decides_person _ = decided_no (λ h. cc (h.1))
 
 decides_group : (o : Option Subject) → Decides (group_test o) (o ≡ Some Subject.Group)
-decides_group None = ((λ e. absurd (true≢false (sym e))), λ h. ap group_test h)
-decides_group (Some (Subject.Person mark)) = ((λ e. absurd (true≢false (sym e))), λ h. ap group_test h)
-decides_group (Some Subject.Group) = ((λ e. refl), λ h. refl)
+decides_group (Some Subject.Group) = decided_yes refl
+decides_group _ = decided_no (λ h. cc)
 
 decides_creator : (o : Option Subject) → Decides (creator_test o) (o ≡ Some (Subject.Person true))
-decides_creator None = ((λ e. absurd (true≢false (sym e))), λ h. ap creator_test h)
-decides_creator (Some (Subject.Person mark)) = ((λ e. ap (λ b. Some (Subject.Person b)) e), λ h. ap creator_test h)
-decides_creator (Some Subject.Group) = ((λ e. absurd (true≢false (sym e))), λ h. ap creator_test h)
+decides_creator (Some (Subject.Person mark)) = (λ e. ap (λ b. Some (Subject.Person b)) e, λ h. cc)
+decides_creator _ = decided_no (λ h. cc)
 
 -- numbers in their ranges
 abbrev pub subject_number_test : ℕ → Bool
@@ -122,10 +82,10 @@ decides_rising (d ∷ ds) = Decides-and _ _ (decides_all (λ c. d < c) (λ c. lt
 -- levels
 module _ (tables : Tables) where
   abbrev pub stands_test : ℕ → Bool
-  stands_test t = table_test (λ r. true) (tables t)
+  stands_test t = is_some (tables t)
 
   decides_stands : (t : ℕ) → Decides (stands_test t) (Stands tables t)
-  decides_stands t = Decides-like _ (λ h. (h.0, h.1)) (λ h. (h.0, h.1, tt)) (decides_table (λ r. Unit {0}) (λ r. true) (λ r. decided_yes tt) (tables t))
+  decides_stands t = decides_is_some (tables t)
 
   abbrev LevelUnder : ℕ → ℕ → Type 0
   LevelUnder n t = (k : ℕ) × Level tables t k × (k < n)
@@ -150,13 +110,13 @@ module _ (tables : Tables) where
   -- the table stands, and every table that it names has a level below n
   abbrev pub level_test : ℕ → ℕ → Bool
   level_test zero t = false
-  level_test (suc n) t = table_test (λ r. list_all (λ d. level_test n d) r.names) (tables t)
+  level_test (suc n) t = passes (λ r. list_all (λ d. level_test n d) r.names) (tables t)
 
   decides_level : (n t : ℕ) → Decides (level_test n t) (LevelUnder n t)
-  decides_level zero t = ((λ e. absurd (true≢false (sym e))), λ h. absurd (let lt = h.2 in omega arith))
+  decides_level zero t = decided_no (λ h. let lt = h.2 in omega arith)
   decides_level (suc n) t =
       Decides-like _ out (λ h. back h.1 h.2)
-      (decides_table (λ r. (d : ℕ) → In d r.names → LevelUnder n d) (λ r. list_all (λ d. level_test n d) r.names) (λ r. decides_each (λ d. LevelUnder n d) (λ d. level_test n d) r.names (λ d _. decides_level n d)) (tables t))
+      (decides_passes (λ r. (d : ℕ) → In d r.names → LevelUnder n d) (λ r. list_all (λ d. level_test n d) r.names) (tables t) (λ r _. decides_each (λ d. LevelUnder n d) (λ d. level_test n d) r.names (λ d _. decides_level n d)))
     where
       Stood : Type 0
       Stood = (r : Table) × (tables t ≡ Some r) × ((d : ℕ) → In d r.names → LevelUnder n d)
@@ -216,14 +176,14 @@ module _ (lent : Lent) (h : History) where
   abbrev pub pair_tests : ℕ → ℕ → ℕ → List Bool → List Bool
   pair_tests i m g more =
       not (leb i 255 && (subject_number_test m && subject_number_test g)) ∷
-      (strange_test h.subjects i || (not (registered_test (h.subjects m)) || not (group_test (h.subjects g)))) ∷
+      (strange_test h.subjects i || (not (is_some (h.subjects m)) || not (group_test (h.subjects g)))) ∷
       not (eqb i 0) ∷
       more
 
   -- a test for each check of the command's list
   abbrev pub tests : Command → List Bool
-  tests (Command.User n c) = not (subject_number_test n && leb c 1) ∷ registered_test (h.subjects n) ∷ []
-  tests (Command.Group n) = not (subject_number_test n) ∷ registered_test (h.subjects n) ∷ []
+  tests (Command.User n c) = not (subject_number_test n && leb c 1) ∷ is_some (h.subjects n) ∷ []
+  tests (Command.Group n) = not (subject_number_test n) ∷ is_some (h.subjects n) ∷ []
   tests Command.Open = not (person_below h.subjects 256) ∷ []
   tests Command.Close = []
   tests (Command.Admit i m g) =
@@ -252,14 +212,14 @@ module _ (lent : Lent) (h : History) where
       []
   tests (Command.Give i s p sign t strength) =
       let e = access_entry i s p sign t strength in
-      grant_tests registered_test (access_range p sign strength) i s t (
+      grant_tests is_some (access_range p sign strength) i s t (
       list_any (same_entry e) h.entries ∷
       not (supported_test h.tables 7 h.entries e) ∷
       (eqb sign 1 && view_test h.tables t) ∷
       full_test ∷
       clash_test h.pairs h.tables (e ∷ h.entries) (λ t. 7) (candidates h.pairs h.tables (e ∷ h.entries)) ∷
       [])
-  tests (Command.Ungive i s p sign t strength) = revoke_tests registered_test (access_range p sign strength) i s t (access_entry i s p sign t strength)
+  tests (Command.Ungive i s p sign t strength) = revoke_tests is_some (access_range p sign strength) i s t (access_entry i s p sign t strength)
   tests (Command.Lend i s p t kind rank) =
       let e = admin_entry i s p t kind rank in
       grant_tests person_test (access_range p kind rank) i s t (list_any (same_entry e) h.entries ∷ not (supported_test h.tables 7 h.entries e) ∷ full_test ∷ [])
@@ -314,14 +274,14 @@ module _ (lent : Lent) (h : History) where
 
     pub tests_decide : (c : Command) → Decided (checks lent h c) (tests c)
     unfolding checks user_checks group_checks open_checks base_checks view_checks drop_checks admit_checks remove_checks give_checks lend_checks may_checks
-    tests_decide (Command.User n c) = (Decides-not _ (Decides-and _ _ (decides_subject_number n) (decides_leb c 1)), (decides_registered (h.subjects n), tt))
-    tests_decide (Command.Group n) = (Decides-not _ (decides_subject_number n), (decides_registered (h.subjects n), tt))
+    tests_decide (Command.User n c) = (Decides-not _ (Decides-and _ _ (decides_subject_number n) (decides_leb c 1)), (decides_is_some (h.subjects n), tt))
+    tests_decide (Command.Group n) = (Decides-not _ (decides_subject_number n), (decides_is_some (h.subjects n), tt))
     tests_decide Command.Open = (nobody, tt)
     tests_decide Command.Close = tt
     tests_decide (Command.Admit i m g) = (
       Decides-not _ (decides_and_3 _ _ _ (decides_leb i 255) (decides_subject_number m) (decides_subject_number g)),
       (
-        Decides-or _ _ (decides_strange h.subjects i) (Decides-or _ _ (Decides-not _ (decides_registered (h.subjects m))) (Decides-not _ (decides_group (h.subjects g)))),
+        Decides-or _ _ (decides_strange h.subjects i) (Decides-or _ _ (Decides-not _ (decides_is_some (h.subjects m))) (Decides-not _ (decides_group (h.subjects g)))),
         (
           Decides-not _ (Decides-eqb i 0),
           (
@@ -343,7 +303,7 @@ module _ (lent : Lent) (h : History) where
     tests_decide (Command.Remove i m g) = (
       Decides-not _ (decides_and_3 _ _ _ (decides_leb i 255) (decides_subject_number m) (decides_subject_number g)),
       (
-        Decides-or _ _ (decides_strange h.subjects i) (Decides-or _ _ (Decides-not _ (decides_registered (h.subjects m))) (Decides-not _ (decides_group (h.subjects g)))),
+        Decides-or _ _ (decides_strange h.subjects i) (Decides-or _ _ (Decides-not _ (decides_is_some (h.subjects m))) (Decides-not _ (decides_group (h.subjects g)))),
         (
           Decides-not _ (Decides-eqb i 0),
           (
@@ -392,7 +352,7 @@ module _ (lent : Lent) (h : History) where
     )
     tests_decide (Command.Give i s p sign t strength) =
         let e = access_entry i s p sign t strength in
-        decides_grant Registered registered_test (λ x. decides_registered (h.subjects x)) _ _ (decides_range p sign strength) i s t _ _ (
+        decides_grant Registered is_some (λ x. decides_is_some (h.subjects x)) _ _ (decides_range p sign strength) i s t _ _ (
           decides_entry_in e h.entries,
           (
             Decides-not _ (decides_supported h.tables 7 h.entries e (sound.low t)),
@@ -409,7 +369,7 @@ module _ (lent : Lent) (h : History) where
           ),
         )
     tests_decide (Command.Ungive i s p sign t strength) =
-        decides_revoke Registered registered_test (λ x. decides_registered (h.subjects x)) _ _ (decides_range p sign strength) i s t (access_entry i s p sign t strength)
+        decides_revoke Registered is_some (λ x. decides_is_some (h.subjects x)) _ _ (decides_range p sign strength) i s t (access_entry i s p sign t strength)
     tests_decide (Command.Lend i s p t kind rank) =
         let e = admin_entry i s p t kind rank in
         decides_grant IsPerson person_test (λ x. decides_person (h.subjects x)) _ _ (decides_range p kind rank) i s t _ _ (
@@ -441,37 +401,23 @@ module _ (lent : Lent) (h : History) where
 -- the turn of a word
 abbrev pub turn_test : State → Turn → Bool
 turn_test State.SettingUp preparing = true
-turn_test State.SettingUp working = false
-turn_test State.SettingUp asking = false
-turn_test State.Open preparing = false
 turn_test State.Open working = true
 turn_test State.Open asking = true
-turn_test State.Closed preparing = false
-turn_test State.Closed working = false
 turn_test State.Closed asking = true
+turn_test _ _ = false
 
-decides_turn : (s : State) (w : Turn) → Decides (turn_test s w) (InTurn s w)
+pub decides_turn : (s : State) (w : Turn) → Decides (turn_test s w) (InTurn s w)
 decides_turn State.SettingUp preparing = decided_yes tt
-decides_turn State.SettingUp working = decided_no (λ h. h)
-decides_turn State.SettingUp asking = decided_no (λ h. h)
-decides_turn State.Open preparing = decided_no (λ h. h)
 decides_turn State.Open working = decided_yes tt
 decides_turn State.Open asking = decided_yes tt
-decides_turn State.Closed preparing = decided_no (λ h. h)
-decides_turn State.Closed working = decided_no (λ h. h)
 decides_turn State.Closed asking = decided_yes tt
+decides_turn _ _ = decided_no (λ h. h)
 
-decided_map : (cs : List (Check RegisterFault)) (bs : List Bool) → Decided cs bs → Decided (map (λ (k : Check RegisterFault). refuse (SheetFault.Register k.gives) k.when) cs) bs
-decided_map [] [] d = tt
-decided_map [] (b ∷ bs) d = absurd d
-decided_map (c ∷ cs) [] d = absurd d
-decided_map (c ∷ cs) (b ∷ bs) d = (d.0, decided_map cs bs d.1)
+-- the register's refusal of a command, by the tests of its list
+unfoldable pub refusal : Lent → History → Command → Option RegisterFault
+unfolding checks user_checks group_checks open_checks base_checks view_checks drop_checks admit_checks remove_checks grant_checks give_checks lend_checks revoke_checks may_checks same_entry
+refusal lent h c = first_of (checks lent h c) (tests lent h c)
 
--- the refusal of a command, by the tests of its list
-unfoldable pub refusal : Lent → History → State → Command → Option SheetFault
-unfolding sheet_checks checks user_checks group_checks open_checks base_checks view_checks drop_checks admit_checks remove_checks grant_checks give_checks lend_checks revoke_checks may_checks same_entry
-refusal lent h state c = first_of (sheet_checks lent h state c) (not (turn_test state (turn c)) ∷ tests lent h c)
-
-pub refusal_first : (lent : Lent) (h : History) → Sound h → (state : State) (c : Command) → First (sheet_checks lent h state c) (refusal lent h state c)
-unfolding refusal sheet_checks
-refusal_first lent h sound state c = first_decided (sheet_checks lent h state c) (not (turn_test state (turn c)) ∷ tests lent h c) (Decides-not _ (decides_turn state (turn c)), decided_map (checks lent h c) (tests lent h c) (tests_decide lent h sound c))
+pub refusal_first : (lent : Lent) (h : History) → Sound h → (c : Command) → First (checks lent h c) (refusal lent h c)
+unfolding refusal
+refusal_first lent h sound c = first_decided (checks lent h c) (tests lent h c) (tests_decide lent h sound c)
