@@ -1,10 +1,10 @@
 -- Tests and what they decide: either way of a property, that some or every element of a list has it,
 -- and which elements a filter keeps.
-use Rattle.std.proofs.Common.{◌≡◌, ℕ, ◌≤◌, Bool, true, false, leb, ◌&&◌, ◌⊎◌, List, [], ◌∷◌, Some, None, Decides, Option, sym, refl, ap, ◌∙◌, subst, inl, inr, ⊎_elim}
+use Rattle.std.proofs.Common.{◌≡◌, ℕ, ◌≤◌, Bool, true, false, leb, ◌&&◌, ◌⊎◌, List, [], ◌∷◌, Some, None, Decides, Option, sym, refl, ap, ◌∙◌, subst, inl, inr, ⊎_elim, arith}
 use Rattle.std.specs.List.{AllByRecursion, filter, list_any, list_all}
 use Rattle.std.specs.Option.{is_some, unwrap_or, option_map}
-use Rattle.std.proofs.lemmas.Bool.{false≢true, both_ways, leb-true, le-leb, cond_both}
-use Rattle.std.proofs.lemmas.Bool.Decides.{Decides-and, Decides-or, Decides-like, not_from_Decides}
+use Rattle.std.proofs.lemmas.Bool.{false≢true, both_ways, cond_both}
+use Rattle.std.proofs.lemmas.Bool.Decides.{Decides-and, Decides-or, Decides-like, not_from_Decides, nat_tests}
 use Rattle.std.proofs.lemmas.Option.{none-some, same_Some}
 use Rattle.rights.specs.Lists.{In}
 
@@ -27,7 +27,7 @@ pub stable : {P : Type 0} (r : Bool) → Decides r P → ((P → ⊥) → ⊥) �
 stable r d n = ⊎_elim (λ p. p) (λ q. absurd (n q)) (either_way r d)
 
 pub decides_leb : (a b : ℕ) → Decides (leb a b) (a ≤ b)
-decides_leb a b = (leb-true a b, le-leb a b)
+decides_leb a b = grind (arith, nat_tests)
 
 pub decides_and_3 : {P Q R : Type 0} (x y z : Bool) → Decides x P → Decides y Q → Decides z R → Decides (x && (y && z)) (P × Q × R)
 decides_and_3 x y z a b c = Decides-like _ (λ h. (h.0, h.1.0, h.1.1)) (λ h. (h.0, (h.1, h.2))) (Decides-and x (y && z) a (Decides-and y z b c))

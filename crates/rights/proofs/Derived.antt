@@ -65,14 +65,7 @@ right_order (Right.Admin p k r) (Right.Admin p' k' r') =
     rw (privilege_order p p', kind_order k k', rank_order r r', by_three _ _ _ _ _ _ (kind_few k) (rank_few r) (kind_few k') (rank_few r')) (shifted 16 (4 * privilege_number p + (2 * kind_number k + rank_number r)) (4 * privilege_number p' + (2 * kind_number k' + rank_number r')))
 
 pub pair_order : (p q : Pair) → MatchOrdering ((pair_ord.ghosts).cmp p q) (PairBefore p q) (p ≡ q) (PairBefore q p)
-pair_order p q =
-    by_ranked _ _ _ (nat_cmp p.member q.member) (ranked p.member q.member _ refl)
-    (λ e (h : p.member < q.member). rw e (omega arith, λ same. omega (arith, same)))
-    (λ e (h : p.member ≡ q.member). rw e (by_ranked _ _ _ (nat_cmp p.group q.group) (ranked p.group q.group _ refl)
-    (λ d (k : p.group < q.group). rw d (omega (arith, h), λ same. k))
-    (λ d (k : p.group ≡ q.group). rw d (λ i. record { member = h i; group = k i }))
-    (λ d (k : q.group < p.group). rw d (omega (arith, h), λ same. k))))
-    (λ e (h : q.member < p.member). rw e (omega arith, λ same. omega (arith, same)))
+pair_order p q = grind (arith, nat_tests)
 
 -- what the answer of a comparison says
 record Says (o : Ordering) (Less Same More : Type 0) : Type 0 where

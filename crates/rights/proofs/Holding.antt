@@ -1,7 +1,7 @@
 -- The laws of holding: it grows with the pairs and with the entries, and tests decide it.
-use Rattle.std.proofs.Common.{◌≡◌, ℕ, Bool, ◌&&◌, ◌||◌, eqb, List, [], Some, Decides, ap, inl, inr}
+use Rattle.std.proofs.Common.{◌≡◌, ℕ, Bool, ◌&&◌, ◌||◌, eqb, List, [], Some, Decides, inl, inr, arith}
 use Rattle.std.specs.List.{list_any}
-use Rattle.std.proofs.lemmas.Bool.Decides.{Decides-eqb, Decides-and, Decides-or, Decides-like}
+use Rattle.std.proofs.lemmas.Bool.Decides.{nat_tests, Decides-eqb, Decides-and, Decides-or, Decides-like}
 use Rattle.rights.specs.declared.entries.Entry.{Entry}
 use Rattle.rights.specs.declared.entries.Pair.{Pair}
 use Rattle.rights.specs.declared.vocabulary.Privilege.{Privilege}
@@ -44,14 +44,13 @@ abbrev pub same_right : Right → Right → Bool
 same_right a b = eqb (bit a) (bit b)
 
 pub decides_same_right : (a b : Right) → Decides (same_right a b) (a ≡ b)
-decides_same_right a b = Decides-like (eqb (bit a) (bit b)) (bit_injective a b) (λ e. ap bit e) (Decides-eqb (bit a) (bit b))
+decides_same_right a b = grind (arith, nat_tests, bit_injective a b)
 
 abbrev pub same_pair : Pair → Pair → Bool
 same_pair a b = eqb a.member b.member && eqb a.group b.group
 
 pub decides_same_pair : (a b : Pair) → Decides (same_pair a b) (a ≡ b)
-decides_same_pair a b = Decides-like (same_pair a b) (λ h i. record { member = h.0 i; group = h.1 i }) (λ e. (ap (λ x. x.member) e, ap (λ x. x.group) e))
-    (Decides-and (eqb a.member b.member) (eqb a.group b.group) (Decides-eqb a.member b.member) (Decides-eqb a.group b.group))
+decides_same_pair a b = grind (arith, nat_tests)
 
 pub decides_entry_in : (e : Entry) (es : List Entry) → Decides (list_any (same_entry e) es) (In e es)
 decides_entry_in = decides_in same_entry decides_same
