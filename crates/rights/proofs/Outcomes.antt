@@ -91,7 +91,7 @@ pair_placed : (a : Pair) (ps : List Pair) → Rising PairBefore ps → (In a ps 
 pair_placed = placed_in PairBefore pair_before decides_pair_before pair_transitive pair_total
 
 pair_unplaced : (a : Pair) (ps : List Pair) → Rising PairBefore ps → In a ps → Placed PairBefore a (unplace same_pair a ps) ps
-pair_unplaced = unplaced_in PairBefore pair_before decides_pair_before pair_transitive pair_total same_pair decides_same_pair
+pair_unplaced = unplaced_in PairBefore same_pair decides_same_pair
 
 module _ (lent : Lent) (h : History) (sound : Sound h) where
   replied : (c : Command) → Accepted h c (struck_by h c) (reply h c)
@@ -169,7 +169,7 @@ module _ (lent : Lent) (h : History) (sound : Sound h) where
   next_sound (Command.User n c) x = with_subject_sound n _ (at_most n 255 (λ k. x.0 (λ r. k r.0.1)))
   next_sound (Command.Group n) x = with_subject_sound n _ (at_most n 255 (λ k. x.0 (λ r. k r.1)))
   next_sound (Command.Admit i m g) x = with_pairs_sound _ (placed_rises PairBefore _ _ _ (pair_placed (pair m g) h.pairs sound.pairs_rise x.1.1.1.0))
-  next_sound (Command.Remove i m g) x = with_pairs_sound _ (unplace_rises PairBefore pair_before decides_pair_before pair_transitive pair_total same_pair (pair m g) h.pairs sound.pairs_rise)
+  next_sound (Command.Remove i m g) x = with_pairs_sound _ (unplace_rises PairBefore same_pair (pair m g) h.pairs sound.pairs_rise)
   next_sound (Command.Base i t) x = with_table_sound t 0 _ (at_most t 127 (λ k. x.0 (λ r. k r.1))) x.1.1.1.0 over_none (omega arith)
   next_sound (Command.View i t d) x =
       let made_up = (stable _ (decides_well_made h.tables (tables_in d)) x.1.1.1.1.1.0).3 in
