@@ -16,17 +16,12 @@ module _ (pairs : List Pair) (tables : Tables) (entries : List Entry) (u : ℕ) 
   NoStrong = (StrongPlus pairs tables entries u p t → ⊥) × (Denied pairs tables entries u p t → ⊥)
 
   abbrev pub Says : Answer → Type 0
-  Says Answer.Done = ⊥
-  Says (Answer.Struck n) = ⊥
-  Says (Answer.Yes Ground.Nothing) = ⊥
   Says (Answer.Yes Ground.Strong) = StrongPlus pairs tables entries u p t
   Says (Answer.Yes Ground.Weak) = NoStrong × Weakly pairs tables entries u p t
   Says (Answer.Yes Ground.Named) = NoStrong × (Weakly pairs tables entries u p t → ⊥) × ByNames pairs tables entries u p t
   Says (Answer.No Ground.Nothing) = NoStrong × (Weakly pairs tables entries u p t → ⊥) × (ByNames pairs tables entries u p t → ⊥)
   Says (Answer.No Ground.Strong) = (StrongPlus pairs tables entries u p t → ⊥) × Denied pairs tables entries u p t
-  Says (Answer.No Ground.Weak) = ⊥
-  Says (Answer.No Ground.Named) = ⊥
-  Says (Answer.Refused f) = ⊥
+  Says _ = ⊥
 
   pub answers_says : (a : Answer) → Answers pairs tables entries u p t a → Says a
   unfolding Answers rules First
@@ -39,14 +34,9 @@ module _ (pairs : List Pair) (tables : Tables) (entries : List Entry) (u : ℕ) 
 
   pub says_answers : (a : Answer) → Says a → Answers pairs tables entries u p t a
   unfolding Answers rules First
-  says_answers Answer.Done s = absurd s
-  says_answers (Answer.Struck n) s = absurd s
-  says_answers (Answer.Yes Ground.Nothing) s = absurd s
   says_answers (Answer.Yes Ground.Strong) s = inl (s, refl)
   says_answers (Answer.Yes Ground.Weak) s = inr (s.0.0, inr (s.0.1, inl (s.1, refl)))
   says_answers (Answer.Yes Ground.Named) s = inr (s.0.0, inr (s.0.1, inr (s.1, inl (s.2, refl))))
   says_answers (Answer.No Ground.Nothing) s = inr (s.0.0, inr (s.0.1, inr (s.1, inr (s.2, inl (tt, refl)))))
   says_answers (Answer.No Ground.Strong) s = inr (s.0, inl (s.1, refl))
-  says_answers (Answer.No Ground.Weak) s = absurd s
-  says_answers (Answer.No Ground.Named) s = absurd s
-  says_answers (Answer.Refused f) s = absurd s
+  says_answers _ s = absurd s

@@ -1,13 +1,12 @@
 -- Laws of steps and runs: a command has one answer, one list of struck entries, one next state and one next
 -- history, and it is refused exactly where a check applies.
-use Rattle.std.proofs.Common.{◌≡◌, ℕ, List, [], Some, None, sym, refl, ap, ◌∙◌, subst, inl, inr}
+use Rattle.std.proofs.Common.{◌≡◌, List, [], Some, None, sym, refl, ap, ◌∙◌, subst}
 use Rattle.std.proofs.lemmas.Option.{none-some, same_Some}
 use Rattle.rights.specs.declared.commands.Answer.{Answer}
 use Rattle.rights.specs.declared.commands.Command.{Command}
 use Rattle.rights.specs.declared.commands.State.{State}
 use Rattle.rights.specs.declared.entries.Entry.{Entry}
 use Rattle.rights.specs.declared.faults.SheetFault.{SheetFault}
-use Rattle.rights.specs.Access.{rules, Answers}
 use Rattle.rights.specs.Checks.{First}
 use Rattle.rights.specs.Entries.{Before}
 use Rattle.rights.specs.History.{History, with_entries, with_pairs, with_tables, Granting, Revoking, Becomes}
@@ -18,6 +17,7 @@ use Rattle.rights.specs.Tables.{unmade}
 use Rattle.rights.proofs.Access.{answers_unique}
 use Rattle.rights.proofs.Chain.{revoked_same}
 use Rattle.rights.proofs.Checks.{first_unique}
+use Rattle.rights.proofs.Grounds.{answers_says}
 use Rattle.rights.proofs.Order.{before_irreflexive, before_transitive}
 use Rattle.rights.proofs.Pairs.{pair_one_way}
 use Rattle.rights.proofs.Parts.{placed_same, unplaced_same, parted_same}
@@ -79,21 +79,12 @@ run_same (more {state' = s} {h' = g} {struck = k} {all = ks} {a = a} {answers = 
     let answers : l ≡ l' = rest.1 in
     ((cc), (cc), rest.2, rest.3)
 
--- a question is answered by yes or no, and an accepted command never by a refusal
-answered_word : (h : History) (u : ℕ) (p : _) (t : ℕ) (f : SheetFault) → Answers h.pairs h.tables h.entries u p t (Answer.Refused f) → ⊥
-unfolding Answers rules First
-answered_word h u p t f (inl x) = let e = x.1 in cc
-answered_word h u p t f (inr (_, inl x)) = let e = x.1 in cc
-answered_word h u p t f (inr (_, inr (_, inl x))) = let e = x.1 in cc
-answered_word h u p t f (inr (_, inr (_, inr (_, inl x)))) = let e = x.1 in cc
-answered_word h u p t f (inr (_, inr (_, inr (_, inr (_, inl x))))) = let e = x.1 in cc
-answered_word h u p t f (inr (_, inr (_, inr (_, inr (_, inr (n, _)))))) = n tt
-
+-- an accepted command is never answered by a refusal
 accepted_word : (h : History) (c : Command) (k : List Entry) (f : SheetFault) → Accepted h c k (Answer.Refused f) → ⊥
 unfolding Accepted
 accepted_word h (Command.Ungive i s p sign t strength) k f e = cc
 accepted_word h (Command.Unlend i s p t kind rank) k f e = cc
-accepted_word h (Command.May u p t) k f e = answered_word h u _ t f e
+accepted_word h (Command.May u p t) k f e = answers_says h.pairs h.tables h.entries u _ t (Answer.Refused f) e
 accepted_word h c k f e = cc
 
 -- refused by the first check that applies, and then nothing changes
