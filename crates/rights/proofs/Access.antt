@@ -55,7 +55,7 @@ module _ (pairs : List Pair) (tables : Tables) (entries : List Entry) where
   unblocked p sign t = filter (λ a. not (weak_at_test pairs tables entries p (other sign) t a.member)) pairs
 
   unblocked_decides : (p : Privilege) (sign : Sign) (t s : ℕ) → Decides (not (weak_at_test pairs tables entries p (other sign) t s)) (WeakAt pairs tables entries p (other sign) t s → ⊥)
-  unblocked_decides p sign t s = Decides-not (weak_at_test pairs tables entries p (other sign) t s) (decides_weak_at pairs tables entries p (other sign) t s)
+  unblocked_decides p sign t s = Decides-not _ (decides_weak_at pairs tables entries p (other sign) t s)
 
   -- a weak entry applies exactly if it is held along those pairs
   pub applies_holds : (u : ℕ) (p : Privilege) (sign : Sign) (t : ℕ) → Applies pairs tables entries u p sign t → Holds (unblocked p sign t) entries u p sign t Strength.Weak
@@ -75,14 +75,14 @@ module _ (pairs : List Pair) (tables : Tables) (entries : List Entry) where
   applies_test u p sign t = holds_test (unblocked p sign t) entries u p sign t Strength.Weak
 
   pub decides_applies : (u : ℕ) (p : Privilege) (sign : Sign) (t : ℕ) → Decides (applies_test u p sign t) (Applies pairs tables entries u p sign t)
-  decides_applies u p sign t = Decides-like (applies_test u p sign t) (holds_applies u p sign t) (applies_holds u p sign t) (decides_holds (unblocked p sign t) entries u p sign t Strength.Weak)
+  decides_applies u p sign t = Decides-like _ (holds_applies u p sign t) (applies_holds u p sign t) (decides_holds (unblocked p sign t) entries u p sign t Strength.Weak)
 
   abbrev pub weakly_test : ℕ → Privilege → ℕ → Bool
   weakly_test u p t = let minus = applies_test u p Sign.Minus t in applies_test u p Sign.Plus t && not minus
 
   pub decides_weakly : (u : ℕ) (p : Privilege) (t : ℕ) → Decides (weakly_test u p t) (Weakly pairs tables entries u p t)
   unfolding Weakly
-  decides_weakly u p t = Decides-and (applies_test u p Sign.Plus t) (not (applies_test u p Sign.Minus t)) (decides_applies u p Sign.Plus t) (Decides-not (applies_test u p Sign.Minus t) (decides_applies u p Sign.Minus t))
+  decides_weakly u p t = Decides-and _ _ (decides_applies u p Sign.Plus t) (Decides-not _ (decides_applies u p Sign.Minus t))
 
   -- a base table beneath t with a strong minus is the table of an entry
   abbrev pub denied_by_test : ℕ → ℕ → Privilege → ℕ → ℕ → Bool
@@ -96,8 +96,8 @@ module _ (pairs : List Pair) (tables : Tables) (entries : List Entry) where
 
   pub decides_denied : (n u : ℕ) (p : Privilege) (t : ℕ) → Low tables n t → Decides (denied_test n u p t) (Denied pairs tables entries u p t)
   unfolding Denied StrongMinus Holds
-  decides_denied n u p t low = Decides-or (strong_minus_test pairs entries u p t) (list_any (λ e. denied_by_test n u p t e.table) entries) (decides_strong_minus pairs entries u p t)
-      (Decides-like (list_any (λ e. denied_by_test n u p t e.table) entries)
+  decides_denied n u p t low = Decides-or _ _ (decides_strong_minus pairs entries u p t)
+      (Decides-like _
       (λ h. (h.0.table, h.2.0, h.2.1.0, h.2.1.1))
       (λ h. let m = h.3 in (m.0, m.1, subst At (sym m.2.0) (h.1, (h.2, h.3))))
       (decides_some (λ e. At e.table) (λ e. denied_by_test n u p t e.table) entries (λ e _. one e.table)))
@@ -106,8 +106,8 @@ module _ (pairs : List Pair) (tables : Tables) (entries : List Entry) where
       At b = IsBase tables b × (Beneath tables b t × StrongMinus pairs entries u p b)
 
       one : (b : ℕ) → Decides (denied_by_test n u p t b) (At b)
-      one b = Decides-and (base_test tables b) (beneath_test tables n b t && strong_minus_test pairs entries u p b) (decides_base tables b)
-          (Decides-and (beneath_test tables n b t) (strong_minus_test pairs entries u p b) (decides_beneath tables n b t low) (decides_strong_minus pairs entries u p b))
+      one b = Decides-and _ _ (decides_base tables b)
+          (Decides-and _ _ (decides_beneath tables n b t low) (decides_strong_minus pairs entries u p b))
 
   -- the rules give yes: strongly, or without a denial weakly or by the tables named
   abbrev GivesYes : ℕ → Privilege → ℕ → Type 0
@@ -129,10 +129,10 @@ module _ (pairs : List Pair) (tables : Tables) (entries : List Entry) where
   yes_test n u p t b = let more = not (denied_test n u p t) && (weakly_test u p t || b) in strong_plus_test pairs tables entries u p t || more
 
   pub decides_yes : (n u : ℕ) (p : Privilege) (t : ℕ) (b : Bool) → Low tables n t → Decides b (ByNames pairs tables entries u p t) → Decides (yes_test n u p t b) (Granted pairs tables entries u p t)
-  decides_yes n u p t b low k = Decides-like (yes_test n u p t b) (yes_granted u p t) granted_yes
-      (Decides-or (strong_plus_test pairs tables entries u p t) (not (denied_test n u p t) && (weakly_test u p t || b)) (decides_strong_plus pairs tables entries u p t)
-      (Decides-and (not (denied_test n u p t)) (weakly_test u p t || b) (Decides-not (denied_test n u p t) (decides_denied n u p t low))
-      (Decides-or (weakly_test u p t) b (decides_weakly u p t) k)))
+  decides_yes n u p t b low k = Decides-like _ (yes_granted u p t) granted_yes
+      (Decides-or _ _ (decides_strong_plus pairs tables entries u p t)
+      (Decides-and _ _ (Decides-not _ (decides_denied n u p t low))
+      (Decides-or _ _ (decides_weakly u p t) k)))
 
   abbrev pub by_names_test : ℕ → ℕ → Privilege → ℕ → Bool
   by_names_test zero u p t = false
@@ -154,11 +154,11 @@ module _ (pairs : List Pair) (tables : Tables) (entries : List Entry) where
   pub decides_by_names : (n u : ℕ) (p : Privilege) (t : ℕ) → Low tables n t → Decides (by_names_test n u p t) (ByNames pairs tables entries u p t)
   unfolding ByNames
   decides_by_names zero u p t low = decided_no (λ h. let d = view_names t h.0 in low_names_none tables t d.0 low d.1)
-  decides_by_names (suc n) u p t low = Decides-like (by_names_test (suc n) u p t)
+  decides_by_names (suc n) u p t low = Decides-like _
       (λ h. (h.0, h.1.0, λ d i. h.1.1 d (names_in tables t d i)))
       (λ h. (h.0, (h.1, λ d i. h.2 d (in_names tables t d i))))
-      (Decides-and (view_test tables t) (owns_test tables u t && list_all (λ d. yes_test n u p d (by_names_test n u p d)) (names_of (tables t))) (decides_view tables t)
-      (Decides-and (owns_test tables u t) (list_all (λ d. yes_test n u p d (by_names_test n u p d)) (names_of (tables t))) (decides_owns tables u t)
+      (Decides-and _ _ (decides_view tables t)
+      (Decides-and _ _ (decides_owns tables u t)
       (decides_each (Granted pairs tables entries u p) (λ d. yes_test n u p d (by_names_test n u p d)) (names_of (tables t))
       (λ d i. let l = low_named tables n t d low (in_names tables t d i) in decides_yes n u p d (by_names_test n u p d) l (decides_by_names n u p d l)))))
 

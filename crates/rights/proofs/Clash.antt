@@ -157,25 +157,25 @@ module _ (pairs : List Pair) (tables : Tables) (entries : List Entry) where
 
     module _ (low : (t : ℕ) → Low tables (height t) t) where
       decides_over : (s : ℕ) (p : Privilege) (f e : Entry) → Decides (over_test s p f e) (Over s p f e)
-      decides_over s p f e = Decides-and (eqb f.table e.table || beneath_test tables (height e.table) f.table e.table) (strong_plus_test pairs tables entries s p e.table)
-          (Decides-or (eqb f.table e.table) (beneath_test tables (height e.table) f.table e.table) (Decides-eqb f.table e.table) (decides_beneath tables (height e.table) f.table e.table (low e.table)))
+      decides_over s p f e = Decides-and _ _
+          (Decides-or _ _ (Decides-eqb f.table e.table) (decides_beneath tables (height e.table) f.table e.table (low e.table)))
           (decides_strong_plus pairs tables entries s p e.table)
 
       decides_under : (p : Privilege) (f : Entry) (s : ℕ) → Decides (under_test p f s) (Under p f s)
-      decides_under p f s = Decides-and (within_test pairs s f.subject) (list_any (over_test s p f) entries) (decides_within pairs s f.subject) (decides_some (Over s p f) (over_test s p f) entries (λ e _. decides_over s p f e))
+      decides_under p f s = Decides-and _ _ (decides_within pairs s f.subject) (decides_some (Over s p f) (over_test s p f) entries (λ e _. decides_over s p f e))
 
       decides_meets : (subjects : List ℕ) (f : Entry) (p : Privilege) → Decides (meets_test subjects f p) (Meets subjects f p)
-      decides_meets subjects f p = Decides-and (same_right f.right (Right.Access p Sign.Minus Strength.Strong)) (list_any (under_test p f) subjects)
+      decides_meets subjects f p = Decides-and _ _
           (decides_same_right f.right (Right.Access p Sign.Minus Strength.Strong)) (decides_some (Under p f) (under_test p f) subjects (λ s _. decides_under p f s))
 
       pub decides_clash : (subjects : List ℕ) → Decides (clash_test subjects) (SomeIn (Clash pairs tables entries) subjects)
-      decides_clash subjects = Decides-like (clash_test subjects) (met_clash subjects) (clash_met subjects)
+      decides_clash subjects = Decides-like _ (met_clash subjects) (clash_met subjects)
           (decides_some (λ f. SomeIn (Meets subjects f) privileges) (λ f. list_any (meets_test subjects f) privileges) entries
           (λ f _. decides_some (Meets subjects f) (meets_test subjects f) privileges (λ p _. decides_meets subjects f p)))
 
       pub decides_clashing : Decides (clash_test candidates) (Clashing pairs tables entries)
       unfolding Clashing
-      decides_clashing = Decides-like (clash_test candidates) (λ h. (h.0, h.2)) (λ c. (c.0, clash_candidate c.0 c.1, c.1)) (decides_clash candidates)
+      decides_clashing = Decides-like _ (λ h. (h.0, h.2)) (λ c. (c.0, clash_candidate c.0 c.1, c.1)) (decides_clash candidates)
 
   pub clashing_or_not : Levelled tables → Clashing pairs tables entries ⊎ (Clashing pairs tables entries → ⊥)
   clashing_or_not levels = either_way (clash_test (λ t. (levels_of tables levels t).0) candidates) (decides_clashing (λ t. (levels_of tables levels t).0) (λ t. (levels_of tables levels t).1))

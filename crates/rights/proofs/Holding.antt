@@ -62,7 +62,7 @@ abbrev pub gives_test : Entry → Privilege → Sign → ℕ → Strength → Bo
 gives_test e p sign t r = let same = same_right e.right (Right.Access p sign r) in eqb e.table t && same
 
 pub decides_gives : (e : Entry) (p : Privilege) (sign : Sign) (t : ℕ) (r : Strength) → Decides (gives_test e p sign t r) (Gives e p sign t r)
-decides_gives e p sign t r = Decides-and (eqb e.table t) (same_right e.right (Right.Access p sign r)) (Decides-eqb e.table t) (decides_same_right e.right (Right.Access p sign r))
+decides_gives e p sign t r = Decides-and _ _ (Decides-eqb e.table t) (decides_same_right e.right (Right.Access p sign r))
 
 -- some entry gives it, at a subject that passes the test
 abbrev pub entry_test : (ℕ → Bool) → List Entry → Privilege → Sign → ℕ → Strength → Bool
@@ -70,9 +70,9 @@ entry_test f entries p sign t r = list_any (λ e. let there = f e.subject in giv
 
 pub decides_entry : (P : ℕ → Type 0) (f : ℕ → Bool) → ((s : ℕ) → Decides (f s) (P s)) → (entries : List Entry) (p : Privilege) (sign : Sign) (t : ℕ) (r : Strength) →
     Decides (entry_test f entries p sign t r) ((e : Entry) × In e entries × Gives e p sign t r × P e.subject)
-decides_entry P f d entries p sign t r = Decides-like (entry_test f entries p sign t r) (λ h. (h.0, h.1, h.2.0, h.2.1)) (λ h. (h.0, h.1, (h.2, h.3)))
+decides_entry P f d entries p sign t r = Decides-like _ (λ h. (h.0, h.1, h.2.0, h.2.1)) (λ h. (h.0, h.1, (h.2, h.3)))
     (decides_some (λ e. Gives e p sign t r × P e.subject) (λ e. gives_test e p sign t r && f e.subject) entries
-    (λ e _. Decides-and (gives_test e p sign t r) (f e.subject) (decides_gives e p sign t r) (d e.subject)))
+    (λ e _. Decides-and _ _ (decides_gives e p sign t r) (d e.subject)))
 
 module _ (pairs : List Pair) (entries : List Entry) where
   abbrev pub holds_test : ℕ → Privilege → Sign → ℕ → Strength → Bool
@@ -95,8 +95,8 @@ module _ (pairs : List Pair) (tables : Tables) (entries : List Entry) where
 
   pub decides_strong_plus : (s : ℕ) (p : Privilege) (t : ℕ) → Decides (strong_plus_test s p t) (StrongPlus pairs tables entries s p t)
   unfolding StrongPlus
-  decides_strong_plus s p t = Decides-or (holds_test pairs entries s p Sign.Plus t Strength.Strong) (base_test tables t && owns_test tables s t)
-      (decides_holds pairs entries s p Sign.Plus t Strength.Strong) (Decides-and (base_test tables t) (owns_test tables s t) (decides_base tables t) (decides_owns tables s t))
+  decides_strong_plus s p t = Decides-or _ _
+      (decides_holds pairs entries s p Sign.Plus t Strength.Strong) (Decides-and _ _ (decides_base tables t) (decides_owns tables s t))
 
   abbrev pub weak_at_test : Privilege → Sign → ℕ → ℕ → Bool
   weak_at_test p sign t s = entry_test (λ x. eqb x s) entries p sign t Strength.Weak

@@ -24,27 +24,16 @@ module _ {X : Type 0} (Before : X → X → Type 0) (one_way : (x y : X) → Bef
   same_more [] b [] b' e r r' = ap (λ l. x ∷ l) e
   same_more [] b (y ∷ f') b' e r r' = absurd (one_way x y (subst (AllByRecursion (Before x)) e r.0).0 (all_in (Before y) (f' ++ (x ∷ b')) r'.0 x (in_middle x f' b')))
   same_more (y ∷ f) b [] b' e r r' = absurd (one_way x y (subst (AllByRecursion (Before x)) (sym e) r'.0).0 (all_in (Before y) (f ++ (x ∷ b)) r.0 x (in_middle x f b)))
-  same_more (y ∷ f) b (z ∷ f') b' e r r' =
-      let h : y ≡ z = cc in
-      let t : f ++ b ≡ f' ++ b' = cc in
-      let s = same_more f b f' b' t r.1 r'.1 in
-      cc
+  same_more (y ∷ f) b (z ∷ f') b' e r r' = let s = same_more f b f' b' (cc) r.1 r'.1 in cc
+
+  never : (y : X) → y ≡ x → Before y x → ⊥
+  never y e k = let k = subst (λ z. Before z x) e k in one_way x x k k
 
   same_less : (f b f' b' : List X) → f ++ (x ∷ b) ≡ f' ++ (x ∷ b') → Rising Before (f ++ (x ∷ b)) → Rising Before (f' ++ (x ∷ b')) → f ++ b ≡ f' ++ b'
   same_less [] b [] b' e r r' = cc
-  same_less [] b (y ∷ f') b' e r r' =
-      let h : y ≡ x = cc in
-      let k : Before y x = all_in (Before y) (f' ++ (x ∷ b')) r'.0 x (in_middle x f' b') in
-      absurd (one_way y x k (subst (λ z. Before z y) h (subst (λ z. Before y z) (sym h) k)))
-  same_less (y ∷ f) b [] b' e r r' =
-      let h : y ≡ x = cc in
-      let k : Before y x = all_in (Before y) (f ++ (x ∷ b)) r.0 x (in_middle x f b) in
-      absurd (one_way y x k (subst (λ z. Before z y) h (subst (λ z. Before y z) (sym h) k)))
-  same_less (y ∷ f) b (z ∷ f') b' e r r' =
-      let h : y ≡ z = cc in
-      let t : f ++ (x ∷ b) ≡ f' ++ (x ∷ b') = cc in
-      let s = same_less f b f' b' t r.1 r'.1 in
-      cc
+  same_less [] b (y ∷ f') b' e r r' = absurd (never y (cc) (all_in (Before y) (f' ++ (x ∷ b')) r'.0 x (in_middle x f' b')))
+  same_less (y ∷ f) b [] b' e r r' = absurd (never y (cc) (all_in (Before y) (f ++ (x ∷ b)) r.0 x (in_middle x f b)))
+  same_less (y ∷ f) b (z ∷ f') b' e r r' = let s = same_less f b f' b' (cc) r.1 r'.1 in cc
 
   pub placed_same : (xs ys zs : List X) → Placed Before x xs ys → Placed Before x xs zs → ys ≡ zs
   unfolding Placed

@@ -1,6 +1,6 @@
 -- Every condition of every list of refusals has a test that decides it, in a history of which the numbers
 -- are in their ranges and the tables have levels of at most 7.
-use Rattle.std.proofs.Common.{◌≡◌, ℕ, zero, suc, ◌+◌, ◌<◌, ◌≤◌, max, Bool, true, false, not, ◌&&◌, ◌||◌, eqb, ltb, leb, List, [], ◌∷◌, length, Some, Decides, Option, sym, refl, ap, subst, inl, inr, arith}
+use Rattle.std.proofs.Common.{◌≡◌, ℕ, zero, suc, ◌+◌, ◌<◌, ◌≤◌, max, Bool, true, false, not, ◌&&◌, ◌||◌, ◌⊎◌, eqb, ltb, leb, List, [], ◌∷◌, length, Some, Decides, Option, sym, refl, ap, subst, inl, inr, arith}
 use Rattle.std.specs.List.{list_all, list_any}
 use Rattle.std.specs.Option.{is_some}
 use Rattle.std.proofs.lemmas.Bool.Decides.{Decides-eqb, Decides-ltb, Decides-and, Decides-or, Decides-not, Decides-like, Decides-below_or}
@@ -13,10 +13,11 @@ use Rattle.rights.specs.Checks.{Check, First}
 use Rattle.rights.specs.Entries.{Before, same_entry}
 use Rattle.rights.specs.History.{History}
 use Rattle.rights.specs.Lists.{In, Rising}
+use Rattle.rights.specs.Numbers.{IssuerNumber, SubjectNumber}
 use Rattle.rights.specs.Pairs.{pair, Before as PairBefore}
 use Rattle.rights.specs.Read.{access_entry, admin_entry, tables_in}
 use Rattle.rights.specs.Refusals.{Lent, Turn, preparing, working, asking, InTurn, StrangeIssuer, NoMark, WellMade, user_checks, group_checks, open_checks, base_checks, view_checks, drop_checks, admit_checks, remove_checks, grant_checks, give_checks, lend_checks, revoke_checks, may_checks, checks}
-use Rattle.rights.specs.Subjects.{Subjects, Registered, IsPerson}
+use Rattle.rights.specs.Subjects.{Subjects, Registered, IsPerson, IsGroup}
 use Rattle.rights.specs.Tables.{Table, Tables, Stands, Names, Level, level, LevelOver, over_none, over_more}
 use Rattle.rights.proofs.Checks.{Decided, first_of, first_decided}
 use Rattle.rights.proofs.Clash.{candidates, clash_test, decides_clashing}
@@ -258,6 +259,13 @@ module _ (lent : Lent) (h : History) where
     ),
   )
 
+  -- tests for pairs
+  decides_numbers : (i m g : ℕ) → Decides (leb i 255 && (subject_number_test m && subject_number_test g)) (IssuerNumber i × SubjectNumber m × SubjectNumber g)
+  decides_numbers i m g = decides_and_3 _ _ _ (decides_leb i 255) (decides_subject_number m) (decides_subject_number g)
+
+  decides_strangers : (i m g : ℕ) → Decides (strange_test h.subjects i || (not (is_some (h.subjects m)) || not (group_test (h.subjects g)))) (StrangeIssuer h.subjects i ⊎ ((Registered h.subjects m → ⊥) ⊎ (IsGroup h.subjects g → ⊥)))
+  decides_strangers i m g = Decides-or _ _ (decides_strange h.subjects i) (Decides-or _ _ (Decides-not _ (decides_is_some (h.subjects m))) (Decides-not _ (decides_group (h.subjects g))))
+
   decides_range : (p a b : ℕ) → Decides (access_range p a b) ((p ≤ 3) × (a ≤ 1) × (b ≤ 1))
   decides_range p a b = decides_and_3 _ _ _ (decides_leb p 3) (decides_leb a 1) (decides_leb b 1)
 
@@ -279,40 +287,19 @@ module _ (lent : Lent) (h : History) where
     tests_decide Command.Open = (nobody, tt)
     tests_decide Command.Close = tt
     tests_decide (Command.Admit i m g) = (
-      Decides-not _ (decides_and_3 _ _ _ (decides_leb i 255) (decides_subject_number m) (decides_subject_number g)),
+      Decides-not _ (decides_numbers i m g),
       (
-        Decides-or _ _ (decides_strange h.subjects i) (Decides-or _ _ (Decides-not _ (decides_is_some (h.subjects m))) (Decides-not _ (decides_group (h.subjects g)))),
+        decides_strangers i m g,
         (
           Decides-not _ (Decides-eqb i 0),
           (
             decides_pair_in (pair m g) h.pairs,
-            (
-              decides_within h.pairs g m,
-              (
-                Decides-eqb (length h.pairs) lent.roll_ceiling,
-                (
-                  decides_clashing (pair m g ∷ h.pairs) h.tables h.entries (λ t. 7) sound.low,
-                  tt,
-                ),
-              ),
-            ),
+            (decides_within h.pairs g m, (Decides-eqb (length h.pairs) lent.roll_ceiling, (decides_clashing (pair m g ∷ h.pairs) h.tables h.entries (λ t. 7) sound.low, tt))),
           ),
         ),
       ),
     )
-    tests_decide (Command.Remove i m g) = (
-      Decides-not _ (decides_and_3 _ _ _ (decides_leb i 255) (decides_subject_number m) (decides_subject_number g)),
-      (
-        Decides-or _ _ (decides_strange h.subjects i) (Decides-or _ _ (Decides-not _ (decides_is_some (h.subjects m))) (Decides-not _ (decides_group (h.subjects g)))),
-        (
-          Decides-not _ (Decides-eqb i 0),
-          (
-            Decides-not _ (decides_pair_in (pair m g) h.pairs),
-            tt,
-          ),
-        ),
-      ),
-    )
+    tests_decide (Command.Remove i m g) = (Decides-not _ (decides_numbers i m g), (decides_strangers i m g, (Decides-not _ (Decides-eqb i 0), (Decides-not _ (decides_pair_in (pair m g) h.pairs), tt))))
     tests_decide (Command.Base i t) =
         (Decides-not _ (Decides-and _ _ (decides_leb i 255) (decides_leb t 127)), (decides_strange h.subjects i, (decides_no_mark h.subjects i, (decides_stands h.tables t, tt))))
     tests_decide (Command.View i t d) = (

@@ -23,17 +23,7 @@ module _ (ps : List Pair) where
   pub within_one : (m g : ℕ) → In (pair m g) ps → Within ps m g
   within_one m g i = within_step m g g i (within_refl g)
 
-  -- a set that no pair leads out of is not left: what holds at s and passes along every pair
-  -- holds at all that s is within
-  pub within_keeps : (P : ℕ → Type 0) → ((m h : ℕ) → In (pair m h) ps → P m → P h) → (s g : ℕ) → Within ps s g → P s → P g
-  unfolding Within
-  within_keeps P pass s g w at = along w.1 at
-    where
-      along : {s g : ℕ} {l : List ℕ} → Path ps s g l → P s → P g
-      along here p = p
-      along (step {m} {h} i q) p = along q (pass m h i p)
-
-  -- the same against the pairs: what holds at g holds at all that is within g
+  -- against the pairs: what passes from each pair's group to its member holds at all that is within g
   pub within_back : (P : ℕ → Type 0) → ((m h : ℕ) → In (pair m h) ps → P h → P m) → (s g : ℕ) → Within ps s g → P g → P s
   unfolding Within
   within_back P pass s g w at = along w.1 at
@@ -41,6 +31,11 @@ module _ (ps : List Pair) where
       along : {s g : ℕ} {l : List ℕ} → Path ps s g l → P g → P s
       along here p = p
       along (step {m} {h} i q) p = pass m h i (along q p)
+
+  -- a set that no pair leads out of is not left: what holds at s and passes along every pair
+  -- holds at all that s is within
+  pub within_keeps : (P : ℕ → Type 0) → ((m h : ℕ) → In (pair m h) ps → P m → P h) → (s g : ℕ) → Within ps s g → P s → P g
+  within_keeps P pass s g w = within_back (λ x. P x → P g) (λ m h i on at. on (pass m h i at)) s g w (λ at. at)
 
   pub within_trans : (s h g : ℕ) → Within ps s h → Within ps h g → Within ps s g
   within_trans s h g v w = within_back (λ x. Within ps x g) (λ m k i. within_step m k g i) s h v w
