@@ -1,10 +1,10 @@
 -- Tests and what they decide: either way of a property, that some or every element of a list has it,
 -- and which elements a filter keeps.
-use Rattle.std.proofs.Common.{◌≡◌, ℕ, ◌≤◌, Bool, true, false, leb, ◌&&◌, ◌⊎◌, List, [], ◌∷◌, Some, None, Decides, Option, sym, refl, ap, ◌∙◌, subst, inl, inr, ⊎_elim, arith}
+use Rattle.std.proofs.Common.{◌≡◌, ℕ, zero, suc, ◌<◌, ◌≤◌, Bool, true, false, leb, ◌&&◌, ◌||◌, ◌⊎◌, List, [], ◌∷◌, Some, None, Decides, Option, sym, refl, ap, ◌∙◌, subst, inl, inr, ⊎_elim, arith}
 use Rattle.std.specs.List.{AllByRecursion, filter, list_any, list_all}
 use Rattle.std.specs.Option.{is_some, unwrap_or, option_map}
 use Rattle.std.proofs.lemmas.Bool.{false≢true, both_ways, cond_both}
-use Rattle.std.proofs.lemmas.Bool.Decides.{Decides-and, Decides-or, Decides-like, not_from_Decides, nat_tests}
+use Rattle.std.proofs.lemmas.Bool.Decides.{Decides-and, Decides-or, Decides-like, Decides-below_or, not_from_Decides, nat_tests}
 use Rattle.std.proofs.lemmas.Option.{none-some, same_Some}
 use Rattle.rights.specs.Lists.{In}
 
@@ -46,6 +46,14 @@ passes f o = unwrap_or (option_map f o) false
 pub decides_passes : {X : Type 0} (P : X → Type 0) (f : X → Bool) (o : Option X) → ((x : X) → o ≡ Some x → Decides (f x) (P x)) → Decides (passes f o) ((x : X) × (o ≡ Some x) × P x)
 decides_passes P f None d = decided_no (λ h. none-some h.0 h.1)
 decides_passes P f (Some x) d = Decides-like (f x) (λ p. (x, refl, p)) (λ h. subst P (sym (same_Some x h.0 h.1)) h.2) (d x refl)
+
+-- some number below n passes the test
+abbrev pub some_below : (ℕ → Bool) → ℕ → Bool
+some_below f zero = false
+some_below f (suc n) = f n || some_below f n
+
+pub decides_below : (P : ℕ → Type 0) (f : ℕ → Bool) → ((k : ℕ) → Decides (f k) (P k)) → (n : ℕ) → Decides (some_below f n) ((k : ℕ) × (k < n) × P k)
+decides_below P f d = Decides-below_or f P (some_below f) d refl (λ _. refl)
 
 module _ {X : Type 0} where
   -- some element has the property

@@ -3,7 +3,7 @@
 use Rattle.std.proofs.Common.{◌≡◌, ℕ, zero, suc, ◌+◌, ◌<◌, ◌≤◌, max, Bool, true, false, not, ◌&&◌, ◌||◌, ◌⊎◌, eqb, ltb, leb, List, [], ◌∷◌, length, Some, Decides, Option, sym, refl, ap, subst, inl, inr, arith}
 use Rattle.std.specs.List.{list_all, list_any}
 use Rattle.std.specs.Option.{is_some}
-use Rattle.std.proofs.lemmas.Bool.Decides.{Decides-eqb, Decides-ltb, Decides-and, Decides-or, Decides-not, Decides-like, Decides-below_or}
+use Rattle.std.proofs.lemmas.Bool.Decides.{Decides-eqb, Decides-ltb, Decides-and, Decides-or, Decides-not, Decides-like}
 use Rattle.rights.specs.declared.commands.Command.{Command}
 use Rattle.rights.specs.declared.commands.State.{State}
 use Rattle.rights.specs.declared.entries.Entry.{Entry}
@@ -22,7 +22,7 @@ use Rattle.rights.specs.Tables.{Table, Tables, Stands, Names, Level, level, Leve
 use Rattle.rights.proofs.Checks.{Decided, first_of, first_decided}
 use Rattle.rights.proofs.Clash.{candidates, clash_test, decides_clashing}
 use Rattle.rights.proofs.Cover.{supported_test, decides_supported}
-use Rattle.rights.proofs.Deciding.{decided_yes, decided_no, decides_is_some, passes, decides_passes, decides_leb, decides_and_3, decides_and_4, decides_all, decides_each}
+use Rattle.rights.proofs.Deciding.{decided_yes, decided_no, decides_is_some, passes, decides_passes, decides_leb, decides_and_3, decides_and_4, decides_all, decides_each, some_below, decides_below}
 use Rattle.rights.proofs.Holding.{same_pair, decides_entry_in, decides_pair_in}
 use Rattle.rights.proofs.Tables.{Low, view_test, decides_view, owns_test, decides_owns, names_test, decides_names}
 use Rattle.rights.proofs.Within.{within_test, decides_within}
@@ -146,15 +146,6 @@ pub record Sound (h : History) : Type 0 where
   pub pairs_rise : Rising PairBefore h.pairs
   pub entries_rise : Rising Before h.entries
 
--- somebody below n is a person, some table below n names t
-abbrev pub person_below : Subjects → ℕ → Bool
-person_below subjects zero = false
-person_below subjects (suc n) = person_test (subjects n) || person_below subjects n
-
-abbrev pub named_below : Tables → ℕ → ℕ → Bool
-named_below tables t zero = false
-named_below tables t (suc n) = names_test tables n t || named_below tables t n
-
 module _ (lent : Lent) (h : History) where
   abbrev pub grant_tests : (Option Subject → Bool) → Bool → ℕ → ℕ → ℕ → List Bool → List Bool
   grant_tests recipient in_range i s t more =
@@ -185,7 +176,7 @@ module _ (lent : Lent) (h : History) where
   abbrev pub tests : Command → List Bool
   tests (Command.User n c) = not (subject_number_test n && leb c 1) ∷ is_some (h.subjects n) ∷ []
   tests (Command.Group n) = not (subject_number_test n) ∷ is_some (h.subjects n) ∷ []
-  tests Command.Open = not (person_below h.subjects 256) ∷ []
+  tests Command.Open = not (some_below (λ n. person_test (h.subjects n)) 256) ∷ []
   tests Command.Close = []
   tests (Command.Admit i m g) =
       pair_tests i m g (
@@ -209,7 +200,7 @@ module _ (lent : Lent) (h : History) where
       strange_test h.subjects i ∷
       not (stands_test h.tables t) ∷
       (eqb i 0 || not (owns_test h.tables i t)) ∷
-      named_below h.tables t 128 ∷
+      some_below (λ v. names_test h.tables v t) 128 ∷
       []
   tests (Command.Give i s p sign t strength) =
       let e = access_entry i s p sign t strength in
@@ -270,15 +261,15 @@ module _ (lent : Lent) (h : History) where
   decides_range p a b = decides_and_3 _ _ _ (decides_leb p 3) (decides_leb a 1) (decides_leb b 1)
 
   module _ (sound : Sound h) where
-    nobody : Decides (not (person_below h.subjects 256)) ((n : ℕ) → IsPerson h.subjects n → ⊥)
+    nobody : Decides (not (some_below (λ n. person_test (h.subjects n)) 256)) ((n : ℕ) → IsPerson h.subjects n → ⊥)
     nobody =
         Decides-like _ (λ (no_one : (k : ℕ) × (k < 256) × IsPerson h.subjects k → ⊥) n p. let le = sound.few_subjects n (Subject.Person p.0, p.1) in no_one (n, omega arith, p)) (λ all x. all x.0 x.2)
-        (Decides-not _ (Decides-below_or (λ k. person_test (h.subjects k)) (λ k. IsPerson h.subjects k) (person_below h.subjects) (λ k. decides_person (h.subjects k)) refl (λ _. refl) 256))
+        (Decides-not _ (decides_below (IsPerson h.subjects) (λ n. person_test (h.subjects n)) (λ k. decides_person (h.subjects k)) 256))
 
-    named_somewhere : (t : ℕ) → Decides (named_below h.tables t 128) ((v : ℕ) × Names h.tables v t)
+    named_somewhere : (t : ℕ) → Decides (some_below (λ v. names_test h.tables v t) 128) ((v : ℕ) × Names h.tables v t)
     named_somewhere t =
         Decides-like _ (λ x. (x.0, x.2)) (λ x. let le = sound.few_tables x.0 (x.1.0, x.1.1) in (x.0, omega arith, x.1))
-        (Decides-below_or (λ v. names_test h.tables v t) (λ v. Names h.tables v t) (named_below h.tables t) (λ v. decides_names h.tables v t) refl (λ _. refl) 128)
+        (decides_below (λ v. Names h.tables v t) (λ v. names_test h.tables v t) (λ v. decides_names h.tables v t) 128)
 
     pub tests_decide : (c : Command) → Decided (checks lent h c) (tests c)
     unfolding checks user_checks group_checks open_checks base_checks view_checks drop_checks admit_checks remove_checks give_checks lend_checks may_checks
