@@ -1,8 +1,8 @@
 -- The derived orders of pairs and of entries are the rules' own.
-use Rattle.std.proofs.Common.{◌≡◌, ℕ, ◌+◌, ◌*◌, ◌<◌, ◌≤◌, refl, sym, arith, inl, inr}
+use Rattle.std.proofs.Common.{◌≡◌, ℕ, ◌+◌, ◌*◌, ◌<◌, ◌≤◌, refl, arith}
 use Rattle.std.specs.Ordering.{MatchOrdering, nat_cmp, ordering_then}
 use Rattle.std.specs.declared.cmp.Ordering.{Ordering}
-use Rattle.std.proofs.lemmas.Cmp.{ranked, by_ranked}
+use Rattle.std.proofs.lemmas.Cmp.{ranked}
 use Rattle.std.proofs.lemmas.Bool.Decides.{nat_tests}
 use Rattle.rights.specs.declared.entries.Entry.{Entry}
 use Rattle.rights.specs.declared.entries.Pair.{Pair}
@@ -54,7 +54,7 @@ shifted : (n a b : ℕ) → nat_cmp a b ≡ nat_cmp (n + a) (n + b)
 shifted n a b = grind (arith, nat_tests)
 
 -- rights are in the order of their bit numbers
-right_order : (r q : Right) → (right_ord.ghosts).cmp r q ≡ nat_cmp (bit r) (bit q)
+pub right_order : (r q : Right) → (right_ord.ghosts).cmp r q ≡ nat_cmp (bit r) (bit q)
 right_order (Right.Access p s t) (Right.Access p' s' t') =
     rw (privilege_order p p', sign_order s s', strength_order t t') (by_three _ _ _ _ _ _ (sign_few s) (strength_few t) (sign_few s') (strength_few t'))
 right_order (Right.Access p s t) (Right.Admin p' k r) =
@@ -68,26 +68,20 @@ pub pair_order : (p q : Pair) → MatchOrdering ((pair_ord.ghosts).cmp p q) (Pai
 pair_order p q = grind (arith, nat_tests)
 
 -- what the answer of a comparison says
-record Says (o : Ordering) (Less Same More : Type 0) : Type 0 where
-  that : MatchOrdering o Less Same More
+pub record Says (o : Ordering) (Less Same More : Type 0) : Type 0 where
+  pub that : MatchOrdering o Less Same More
 
 -- the first parts decide, and where they are equal the rest
-then_order : (a b : ℕ) {o : Ordering} {Less Same More : Type 0} → Says o Less Same More →
+pub then_order : (a b : ℕ) {o : Ordering} {Less Same More : Type 0} → Says o Less Same More →
     Says (ordering_then (nat_cmp a b) o) (Then a b Less) ((a ≡ b) × Same) (Then b a More)
-then_order a b {o} {Less} {Same} {More} h = record {
-  that =
-      by_ranked _ _ _ (nat_cmp a b) (ranked a b _ refl)
-      (λ e (k : a < b). rw e (inl k))
-      (λ e (k : a ≡ b). rw e (split o h.that k))
-      (λ e (k : b < a). rw e (inl k));
-}
+then_order a b {o} {Less} {Same} {More} h = record { that = split o h.that }
   where
-    split : (o : Ordering) → MatchOrdering o Less Same More → a ≡ b → MatchOrdering o (Then a b Less) ((a ≡ b) × Same) (Then b a More)
-    split Ordering.Less h k = inr (k, h)
-    split Ordering.Equal h k = (k, h)
-    split Ordering.Greater h k = inr (sym k, h)
+    split : (o : Ordering) → MatchOrdering o Less Same More → MatchOrdering (ordering_then (nat_cmp a b) o) (Then a b Less) ((a ≡ b) × Same) (Then b a More)
+    split Ordering.Less h = grind (arith, nat_tests)
+    split Ordering.Equal h = grind (arith, nat_tests)
+    split Ordering.Greater h = grind (arith, nat_tests)
 
-same_where : {o : Ordering} {Less Same More : Type 0} → Says o Less Same More → (Same' : Type 0) → (Same → Same') → MatchOrdering o Less Same' More
+pub same_where : {o : Ordering} {Less Same More : Type 0} → Says o Less Same More → (Same' : Type 0) → (Same → Same') → MatchOrdering o Less Same' More
 same_where {o} {Less} {Same} {More} h Same' f = cases o h.that
   where
     cases : (o : Ordering) → MatchOrdering o Less Same More → MatchOrdering o Less Same' More
@@ -95,7 +89,7 @@ same_where {o} {Less} {Same} {More} h Same' f = cases o h.that
     cases Ordering.Equal k = f k
     cases Ordering.Greater k = k
 
-bits : (a b : ℕ) → Says (nat_cmp a b) (a < b) (a ≡ b) (b < a)
+pub bits : (a b : ℕ) → Says (nat_cmp a b) (a < b) (a ≡ b) (b < a)
 bits a b = record { that = ranked a b _ refl }
 
 pub entry_order : (e f : Entry) → MatchOrdering ((entry_ord.ghosts).cmp e f) (Before e f) (e ≡ f) (Before f e)
