@@ -37,15 +37,16 @@ chain_test test entries = among (marks test (length entries) [] entries)
 abbrev pub others_of : Entry → List Entry → List Entry
 others_of named entries = filter (λ e. not (same_entry e named)) entries
 
-module _ (tables : Tables) where
-  pub chain_grows : (Standing More : Entry → Type 0) → ((e : Entry) → Standing e → More e) → (l : List Entry) → Chain tables Standing l → Chain tables More l
-  chain_grows Standing More more [] c = tt
-  chain_grows Standing More more (e ∷ l) c = (more e c.0, c.1, chain_grows Standing More more l c.2)
+-- what stands and what is supported there stands and is supported here
+chain_like : (tables more : Tables) (Standing More : Entry → Type 0) → ((e : Entry) → Standing e → More e) → ((l : List Entry) (e : Entry) → Supported tables l e → Supported more l e) → (l : List Entry) → Chain tables Standing l → Chain more More l
+chain_like tables more Standing More stand support [] c = tt
+chain_like tables more Standing More stand support (e ∷ l) c = (stand e c.0, support l e c.1, chain_like tables more Standing More stand support l c.2)
 
+module _ (tables : Tables) where
   -- the more stands, the more entries have a chain
   pub has_chain_grows : (Standing More : Entry → Type 0) → ((e : Entry) → Standing e → More e) → (e : Entry) → HasChain tables Standing e → HasChain tables More e
   unfolding HasChain
-  has_chain_grows Standing More more e c = (c.0, chain_grows Standing More more (e ∷ c.0) c.1)
+  has_chain_grows Standing More more e c = (c.0, chain_like tables tables Standing More more (λ _ _ s. s) (e ∷ c.0) c.1)
 
   module _ (Standing : Entry → Type 0) where
     chain_join : (l m : List Entry) → Chain tables Standing l → Chain tables Standing m → Chain tables Standing (l ++ m)
@@ -232,13 +233,9 @@ module _ (tables : Tables) (levels : Levelled tables) where
 
 -- chains stay when tables are made
 module _ (tables more : Tables) (keeps : Extends tables more) (Standing : Entry → Type 0) where
-  chain_extends : (l : List Entry) → Chain tables Standing l → Chain more Standing l
-  chain_extends [] c = tt
-  chain_extends (e ∷ l) c = (c.0, supported_extends tables more keeps l e c.1, chain_extends l c.2)
-
   pub has_chain_extends : (e : Entry) → HasChain tables Standing e → HasChain more Standing e
   unfolding HasChain
-  has_chain_extends e c = (c.0, chain_extends (e ∷ c.0) c.1)
+  has_chain_extends e c = (c.0, chain_like tables more Standing Standing (λ _ s. s) (supported_extends tables more keeps) (e ∷ c.0) c.1)
 
 -- and those of entries on other tables when one is dropped that no view names
 pub dropped_upheld : (tables : Tables) (t : ℕ) → ((v : ℕ) → Names tables v t → ⊥) → (entries kept out : List Entry) → Parted (λ (e : Entry). e.table ≡ t → ⊥) entries kept out → ((e : Entry) → In e entries → HasChain tables (λ f. In f entries) e) → (e : Entry) → In e kept → HasChain (unmade t tables) (λ f. In f kept) e

@@ -46,11 +46,18 @@ decides_right k r p (Right.Admin q k' r') =
         let er : b ≡ r' = cc in
         (ap privilege_number ep, subst (λ x. kind_number k ≤ kind_number x) ek m, subst (λ x. rank_number r ≤ rank_number x) er n)
 
+-- cover stays where the tables and the entries do, among numbers that no view leads out of
+module _ (tables more : Tables) (es fs : List Entry) (Among : ℕ → Type 0) (keeps : (d : ℕ) → Among d → (w : Table) → tables d ≡ Some w → more d ≡ Some w) (down : (d c : ℕ) → Among d → Names tables d c → Among c) (stay : (e : Entry) → In e es → Among e.table → In e fs) where
+  covers_stays : {x : ℕ} {k : Kind} {r : Rank} {p : Privilege} {d : ℕ} → Covers tables es x k r p d → Among d → Covers more fs x k r p d
+  covers_stays (by_owning {t = d} b o) a = by_owning (b.0, keeps d a b.0 b.1, b.2) (o.0, keeps d a o.0 o.1, o.2)
+  covers_stays (by_entry {t = d} e i l) a = by_entry e (stay e i (subst Among (sym l.1) a)) l
+  covers_stays {x} {k} {r} {p} (by_names {t = d} v o all) a =
+      by_names (v.0, keeps d a v.0 v.1, v.2) (o.0, keeps d a o.0 o.1, o.2)
+      (λ c n. let named : Names tables d c = (v.0, v.1, subst (λ (w : Table). In c w.names) (same_Some n.0 v.0 (sym n.1 ∙ keeps d a v.0 v.1)) n.2) in covers_stays (all c named) (down d c a named))
+
 module _ (tables : Tables) where
   pub covers_grows : (es fs : List Entry) → Inside es fs → {x : ℕ} {k : Kind} {r : Rank} {p : Privilege} {t : ℕ} → Covers tables es x k r p t → Covers tables fs x k r p t
-  covers_grows es fs more (by_owning b o) = by_owning b o
-  covers_grows es fs more (by_entry e i l) = by_entry e (more e i) l
-  covers_grows es fs more (by_names v o all) = by_names v o (λ d n. covers_grows es fs more (all d n))
+  covers_grows es fs more c = covers_stays tables tables es fs (λ _. Unit {0}) (λ _ _ _ e. e) (λ _ _ _ _. tt) (λ e i _. more e i) c tt
 
   pub supported_grows : (es fs : List Entry) → Inside es fs → (e : Entry) → Supported tables es e → Supported tables fs e
   unfolding Supported
@@ -111,11 +118,7 @@ module _ (tables : Tables) where
 
 -- more tables, more is covered
 pub covers_extends : (tables more : Tables) → Extends tables more → (entries : List Entry) {x : ℕ} {k : Kind} {r : Rank} {p : Privilege} {t : ℕ} → Covers tables entries x k r p t → Covers more entries x k r p t
-covers_extends tables more keeps entries (by_owning {t = t} b o) = by_owning (b.0, keeps t b.0 b.1, b.2) (o.0, keeps t o.0 o.1, o.2)
-covers_extends tables more keeps entries (by_entry e i l) = by_entry e i l
-covers_extends tables more keeps entries {x} {k} {r} {p} (by_names {t = t} v o all) =
-    by_names (v.0, keeps t v.0 v.1, v.2) (o.0, keeps t o.0 o.1, o.2)
-    (λ d n. covers_extends tables more keeps entries (all d (v.0, v.1, subst (λ (w : Table). In d w.names) (same_Some n.0 v.0 (sym n.1 ∙ keeps t v.0 v.1)) n.2)))
+covers_extends tables more keeps entries c = covers_stays tables more entries entries (λ _. Unit {0}) (λ d _. keeps d) (λ _ _ _ _. tt) (λ _ i _. i) c tt
 
 pub supported_extends : (tables more : Tables) → Extends tables more → (entries : List Entry) (e : Entry) → Supported tables entries e → Supported more entries e
 unfolding Supported
@@ -124,12 +127,7 @@ supported_extends tables more keeps entries e s = covers_extends tables more kee
 -- where no view names t, cover on another table does not come from t or from entries on it
 module _ (tables : Tables) (t : ℕ) (free : (v : ℕ) → Names tables v t → ⊥) where
   pub covers_apart : (es fs : List Entry) → ((e : Entry) → In e es → (e.table ≡ t → ⊥) → In e fs) → {x : ℕ} {k : Kind} {r : Rank} {p : Privilege} {d : ℕ} → Covers tables es x k r p d → (d ≡ t → ⊥) → Covers (unmade t tables) fs x k r p d
-  covers_apart es fs others (by_owning {t = d} b o) apart = let stays = put_other tables t None d apart in by_owning (b.0, stays ∙ b.1, b.2) (o.0, stays ∙ o.1, o.2)
-  covers_apart es fs others (by_entry {t = d} e i l) apart = by_entry e (others e i (λ q. apart (sym l.1 ∙ q))) l
-  covers_apart es fs others (by_names {t = d} v o all) apart =
-      let stays = put_other tables t None d apart in
-      by_names (v.0, stays ∙ v.1, v.2) (o.0, stays ∙ o.1, o.2)
-      (λ c n. let named : Names tables d c = (n.0, sym stays ∙ n.1, n.2) in covers_apart es fs others (all c named) (λ q. free d (subst (Names tables d) q named)))
+  covers_apart es fs others c apart = covers_stays tables (unmade t tables) es fs (λ d. d ≡ t → ⊥) (λ d n w e. put_other tables t None d n ∙ e) (λ v d _ named same. free v (subst (Names tables v) same named)) others c apart
 
   pub supported_apart : (es fs : List Entry) → ((e : Entry) → In e es → (e.table ≡ t → ⊥) → In e fs) → (e : Entry) → Supported tables es e → (e.table ≡ t → ⊥) → Supported (unmade t tables) fs e
   unfolding Supported

@@ -1,5 +1,5 @@
 -- The laws of holding: it grows with the pairs and with the entries, and tests decide it.
-use Rattle.std.proofs.Common.{◌≡◌, ℕ, Bool, ◌&&◌, ◌||◌, eqb, List, [], Some, Decides, inl, inr, arith}
+use Rattle.std.proofs.Common.{◌≡◌, ℕ, Bool, ◌&&◌, ◌||◌, eqb, List, Decides, inl, inr, arith}
 use Rattle.std.specs.List.{list_any}
 use Rattle.std.proofs.lemmas.Bool.Decides.{nat_tests, Decides-eqb, Decides-and, Decides-or, Decides-like}
 use Rattle.rights.specs.declared.entries.Entry.{Entry}
@@ -13,7 +13,7 @@ use Rattle.rights.specs.Bits.{bit}
 use Rattle.rights.specs.Entries.{same_entry}
 use Rattle.rights.specs.Holding.{Gives, Holds, StrongPlus, StrongMinus}
 use Rattle.rights.specs.Lists.{In, Inside}
-use Rattle.rights.specs.Tables.{Table, Tables, Extends}
+use Rattle.rights.specs.Tables.{Tables, Extends}
 use Rattle.rights.specs.Within.{Within}
 use Rattle.rights.proofs.Bits.{bit_injective}
 use Rattle.rights.proofs.Deciding.{decides_some, decides_in}
@@ -30,10 +30,7 @@ module _ (ps qs : List Pair) (pairs_in : Inside ps qs) (es fs : List Entry) (ent
   pub strong_plus_grows : (tables more : Tables) → Extends tables more → (s : ℕ) (p : Privilege) (t : ℕ) → StrongPlus ps tables es s p t → StrongPlus qs more fs s p t
   unfolding StrongPlus
   strong_plus_grows tables more keeps s p t (inl h) = inl (holds_grows s p Sign.Plus t Strength.Strong h)
-  strong_plus_grows tables more keeps s p t (inr o) = inr (table_grows (λ r. r.names ≡ []) o.0, table_grows (λ r. r.owner ≡ s) o.1)
-    where
-      table_grows : (P : Table → Type 0) → (r : Table) × (tables t ≡ Some r) × P r → (r : Table) × (more t ≡ Some r) × P r
-      table_grows P h = (h.0, keeps t h.0 h.1, h.2)
+  strong_plus_grows tables more keeps s p t (inr o) = inr ((o.0.0, keeps t o.0.0 o.0.1, o.0.2), (o.1.0, keeps t o.1.0 o.1.1, o.1.2))
 
   pub strong_minus_grows : (s : ℕ) (p : Privilege) (t : ℕ) → StrongMinus ps es s p t → StrongMinus qs fs s p t
   unfolding StrongMinus

@@ -22,7 +22,7 @@ use Rattle.rights.specs.Read.{privilege_of, mark_of, access_entry, admin_entry, 
 use Rattle.rights.specs.Refusals.{Lent, WellMade, user_checks, group_checks, base_checks, view_checks, drop_checks, admit_checks, remove_checks, grant_checks, give_checks, lend_checks, checks, Takes, turn}
 use Rattle.rights.specs.Runs.{next_state, Accepted, Step, Call, Run, done, more}
 use Rattle.rights.specs.Subjects.{enrolled}
-use Rattle.rights.specs.Tables.{Table, Tables, made, unmade, Stands, Names, Level, level, LevelOver, over_none, over_more}
+use Rattle.rights.specs.Tables.{Table, Tables, made, unmade, Stands, Names, LevelOver, over_none}
 use Rattle.rights.proofs.Access.{answer, answers}
 use Rattle.rights.proofs.Chain.{chain_test, others_of, revoked_by}
 use Rattle.rights.proofs.Cover.{supported_test, decides_supported}
@@ -34,7 +34,7 @@ use Rattle.rights.proofs.Parts.{parted_by}
 use Rattle.rights.proofs.Placing.{place, unplace, placed_in, unplaced_in, placed_rises, unplace_rises, kept_rises}
 use Rattle.rights.proofs.Refusals.{Sound, turn_test, decides_turn, refusal, refusal_first, decides_well_made}
 use Rattle.rights.proofs.Steps.{out_of_turn, refused_step, accepted_step}
-use Rattle.rights.proofs.Tables.{Low, low_made, low_none, put_other, put_cases}
+use Rattle.rights.proofs.Tables.{Low, level_stays, low_made, low_none, put_other, put_cases}
 
 -- none of the checks applies
 abbrev pub NoneOf : {F : Type 0} → List (Check F) → Type 0
@@ -127,18 +127,11 @@ module _ (tables : Tables) (t : ℕ) where
   unmade_stands : (m : ℕ) → Stands (unmade t tables) m → Stands tables m × (m ≡ t → ⊥)
   unmade_stands m s = ⊎_elim (λ h. absurd (none-some s.0 h.1)) (λ h. ((s.0, h.1), h.0)) (put_cases tables t None m (Some s.0) s.1)
 
-  module _ (free : (v : ℕ) → Names tables v t → ⊥) where
-    mutual
-      level_unmade : {d n : ℕ} → Level tables d n → (d ≡ t → ⊥) → Level (unmade t tables) d n
-      level_unmade (level {t = d} {r = r} e over) apart =
-          level (put_other tables t None d apart ∙ e) (over_unmade over (λ c i same. free d (r, e, subst (λ x. In x r.names) same i)))
-
-      over_unmade : {ds : List ℕ} {n : ℕ} → LevelOver tables ds n → ((c : ℕ) → In c ds → c ≡ t → ⊥) → LevelOver (unmade t tables) ds n
-      over_unmade over_none apart = over_none
-      over_unmade (over_more {d = d} l over) apart = over_more (level_unmade l (apart d (inl refl))) (over_unmade over (λ c i. apart c (inr i)))
-
-    low_unmade : (n d : ℕ) → Low tables n d → Low (unmade t tables) n d
-    low_unmade n d low s = let u = unmade_stands d s in let l = low u.0 in (l.0, level_unmade l.1 u.1, l.2)
+  low_unmade : ((v : ℕ) → Names tables v t → ⊥) → (n d : ℕ) → Low tables n d → Low (unmade t tables) n d
+  low_unmade free n d low s =
+      let u = unmade_stands d s in
+      let l = low u.0 in
+      (l.0, level_stays tables (unmade t tables) (λ c. c ≡ t → ⊥) (λ c apart r e. put_other tables t None c apart ∙ e) (λ v c _ named same. free v (subst (Names tables v) same named)) l.1 u.1, l.2)
 
 module _ (lent : Lent) (h : History) (sound : Sound h) where
   with_entries_sound : (es : List Entry) → Rising Before es → Sound (with_entries es h)

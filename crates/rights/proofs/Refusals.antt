@@ -1,6 +1,6 @@
 -- Every condition of every list of refusals has a test that decides it, in a history of which the numbers
 -- are in their ranges and the tables have levels of at most 7.
-use Rattle.std.proofs.Common.{◌≡◌, ℕ, zero, suc, ◌+◌, ◌<◌, ◌≤◌, max, Bool, true, false, not, ◌&&◌, ◌||◌, ◌⊎◌, eqb, ltb, leb, List, [], ◌∷◌, length, Some, Decides, Option, sym, refl, ap, subst, inl, inr, arith}
+use Rattle.std.proofs.Common.{◌≡◌, ℕ, zero, suc, ◌+◌, ◌<◌, ◌≤◌, max, Bool, true, false, not, ◌&&◌, ◌||◌, ◌⊎◌, eqb, ltb, leb, List, [], ◌∷◌, length, Some, Decides, Option, refl, ap, inl, inr, arith}
 use Rattle.std.specs.List.{list_all, list_any}
 use Rattle.std.specs.Option.{is_some}
 use Rattle.std.proofs.lemmas.Bool.Decides.{Decides-eqb, Decides-ltb, Decides-and, Decides-or, Decides-not, Decides-like}
@@ -24,7 +24,7 @@ use Rattle.rights.proofs.Clash.{candidates, clash_test, decides_clashing}
 use Rattle.rights.proofs.Cover.{supported_test, decides_supported}
 use Rattle.rights.proofs.Deciding.{decided_yes, decided_no, decides_is_some, passes, decides_passes, decides_leb, decides_and_3, decides_and_4, decides_all, decides_each, some_below, decides_below}
 use Rattle.rights.proofs.Holding.{same_pair, decides_entry_in, decides_pair_in}
-use Rattle.rights.proofs.Tables.{Low, view_test, decides_view, owns_test, decides_owns, names_test, decides_names}
+use Rattle.rights.proofs.Tables.{Low, over_lower, view_test, decides_view, owns_test, decides_owns, names_test, decides_names}
 use Rattle.rights.proofs.Within.{within_test, decides_within}
 
 -- what is registered
@@ -95,9 +95,7 @@ module _ (tables : Tables) where
   OverAtMost n ds = (k : ℕ) × LevelOver tables ds k × (k ≤ n)
 
   over_each : {ds : List ℕ} {k : ℕ} → LevelOver tables ds k → (n : ℕ) → k ≤ n → (d : ℕ) → In d ds → LevelUnder n d
-  over_each over_none n h d i = absurd i
-  over_each (over_more {d = c} {k = k} {n = m} l over) n h d (inl e) = (k, subst (λ x. Level tables x k) (sym e) l, omega arith)
-  over_each (over_more {k = k} {n = m} l over) n h d (inr i) = over_each over n (omega arith) d i
+  over_each over n h d i = let l = over_lower tables over d i in let lt = l.2 in (l.0, l.1, omega arith)
 
   each_over : (n : ℕ) (ds : List ℕ) → ((d : ℕ) → In d ds → LevelUnder n d) → OverAtMost n ds
   each_over n [] h = (0, over_none, omega arith)

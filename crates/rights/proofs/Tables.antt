@@ -54,7 +54,7 @@ module _ (tables : Tables) where
     over_unique (over_more a o) (over_more b p) = ap₂ (λ k n. max (k + 1) n) (level_unique a b) (over_unique o p)
 
   -- a table in the list has a lower level
-  over_lower : {ds : List ℕ} {n : ℕ} → LevelOver tables ds n → (t : ℕ) → In t ds → (k : ℕ) × Level tables t k × (k < n)
+  pub over_lower : {ds : List ℕ} {n : ℕ} → LevelOver tables ds n → (t : ℕ) → In t ds → (k : ℕ) × Level tables t k × (k < n)
   over_lower over_none t i = absurd i
   over_lower (over_more {d} {k} {n} a o) t (inl e) = (k, subst (λ x. Level tables x k) (sym e) a, omega arith)
   over_lower (over_more {d} {k} {n} a o) t (inr i) = let h = over_lower o t i in let lt = h.2 in (h.0, h.1, omega arith)
@@ -173,13 +173,15 @@ module _ (tables more : Tables) (keeps : Extends tables more) where
   beneath_extends (named {v = v} n) = named (n.0, keeps v n.0 n.1, n.2)
   beneath_extends (deeper {v = v} n q) = deeper (n.0, keeps v n.0 n.1, n.2) (beneath_extends q)
 
+-- levels stay where the tables do, among numbers that no view leads out of
+module _ (tables more : Tables) (Among : ℕ → Type 0) (keeps : (d : ℕ) → Among d → (r : Table) → tables d ≡ Some r → more d ≡ Some r) (down : (d c : ℕ) → Among d → Names tables d c → Among c) where
   mutual
-    pub level_extends : {t n : ℕ} → Level tables t n → Level more t n
-    level_extends (level {t = t} {r = r} e o) = level (keeps t r e) (over_extends o)
+    pub level_stays : {t n : ℕ} → Level tables t n → Among t → Level more t n
+    level_stays (level {t = t} {r = r} e o) a = level (keeps t a r e) (over_stays o (λ c i. down t c a (r, e, i)))
 
-    pub over_extends : {ds : List ℕ} {n : ℕ} → LevelOver tables ds n → LevelOver more ds n
-    over_extends over_none = over_none
-    over_extends (over_more l o) = over_more (level_extends l) (over_extends o)
+    pub over_stays : {ds : List ℕ} {n : ℕ} → LevelOver tables ds n → ((c : ℕ) → In c ds → Among c) → LevelOver more ds n
+    over_stays over_none all = over_none
+    over_stays (over_more {d = d} l o) all = over_more (level_stays l (all d (inl refl))) (over_stays o (λ c i. all c (inr i)))
 
 module _ (tables : Tables) (t : ℕ) (r : Table) where
   -- a table under a free number changes no other
@@ -189,8 +191,8 @@ module _ (tables : Tables) (t : ℕ) (r : Table) where
   -- a table made over tables of such levels has its level too
   pub low_made : (n k : ℕ) → ((d : ℕ) → Low tables n d) → tables t ≡ None → LevelOver tables r.names k → k ≤ n → (d : ℕ) → Low (made t r tables) n d
   low_made n k low free o le d st =
-      ⊎_elim (λ h. (k, level (st.1 ∙ sym h.1) (over_extends tables (made t r tables) (made_extends free) o), le))
-      (λ h. let l = low d (st.0, h.1) in (l.0, level_extends tables (made t r tables) (made_extends free) l.1, l.2))
+      ⊎_elim (λ h. (k, level (st.1 ∙ sym h.1) (over_stays tables (made t r tables) (λ _. Unit {0}) (λ c _. made_extends free c) (λ _ _ _ _. tt) o (λ _ _. tt)), le))
+      (λ h. let l = low d (st.0, h.1) in (l.0, level_stays tables (made t r tables) (λ _. Unit {0}) (λ c _. made_extends free c) (λ _ _ _ _. tt) l.1 tt, l.2))
       (put_cases tables t (Some r) d (Some st.0) st.1)
 
 -- taking a table out adds none
