@@ -1,6 +1,6 @@
 -- The laws of access: weak entries reach along the pairs that are not blocked, tests decide each rule,
 -- every question has exactly one answer, and the rules give yes exactly where that answer is a yes.
-use Rattle.std.proofs.Common.{◌≡◌, ℕ, zero, suc, Bool, true, false, cond, not, ◌&&◌, ◌||◌, ◌⊎◌, List, [], ◌∷◌, Some, Decides, sym, refl, subst, inl, inr, ⊎_elim}
+use Rattle.std.proofs.Common.{◌≡◌, ℕ, zero, suc, Bool, true, false, cond, not, ◌&&◌, ◌||◌, ◌⊎◌, List, [], ◌∷◌, Some, Decides, sym, refl, subst, inl, inr, ⊎_elim, arith}
 use Rattle.std.specs.List.{filter, list_all, list_any}
 use Rattle.std.proofs.lemmas.Bool.Decides.{Decides-and, Decides-or, Decides-not, Decides-like}
 use Rattle.std.proofs.lemmas.Option.{same_Some}
@@ -186,11 +186,7 @@ module _ (pairs : List Pair) (tables : Tables) (entries : List Entry) where
     where
       settled : (b c d e : Bool) → cond b (Some (Answer.Yes Ground.Strong)) (cond c (Some (Answer.No Ground.Strong)) (cond d (Some (Answer.Yes Ground.Weak)) (cond e (Some (Answer.Yes Ground.Named)) (Some (Answer.No Ground.Nothing)))))
           ≡ Some (cond b (Answer.Yes Ground.Strong) (cond c (Answer.No Ground.Strong) (cond d (Answer.Yes Ground.Weak) (cond e (Answer.Yes Ground.Named) (Answer.No Ground.Nothing)))))
-      settled true c d e = refl
-      settled false true d e = refl
-      settled false false true e = refl
-      settled false false false true = refl
-      settled false false false false = refl
+      settled b c d e = grind arith
 
   -- where every table has a level, every question has an answer
   pub answered : Levelled tables → (u : ℕ) (p : Privilege) (t : ℕ) → (a : Answer) × Answers pairs tables entries u p t a

@@ -1,5 +1,6 @@
 -- Tests and what they decide: either way of a property, that some or every element of a list has it,
 -- and which elements a filter keeps.
+-- In the tests of the rules a part that an earlier part may settle is bound by `let`, so that it is computed only where it is needed.
 use Rattle.std.proofs.Common.{◌≡◌, ℕ, zero, suc, ◌<◌, ◌≤◌, Bool, true, false, leb, ◌&&◌, ◌||◌, ◌⊎◌, List, [], ◌∷◌, Some, None, Decides, Option, sym, refl, ap, ◌∙◌, subst, inl, inr, ⊎_elim, arith}
 use Rattle.std.specs.List.{AllByRecursion, filter, list_any, list_all}
 use Rattle.std.specs.Option.{is_some, unwrap_or, option_map}

@@ -85,7 +85,6 @@ module _ (ps : List Pair) (m g : ℕ) where
       (within_step (pair m g ∷ ps) m g h (inl refl) (within_grows ps (pair m g ∷ ps) (λ _ i. inr i) g h v.1))
 
 -- s is within g: already by the rest of the pairs, or through the first of them.
--- A part of a test that an earlier part may settle is bound by `let`, so that it is computed only where it is needed.
 abbrev pub within_test : List Pair → ℕ → ℕ → Bool
 within_test [] s g = eqb s g
 within_test (a ∷ ps) s g =
