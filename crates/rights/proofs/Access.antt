@@ -1,7 +1,9 @@
 -- The laws of access: weak entries reach along the pairs that are not blocked, tests decide each rule,
 -- every question has exactly one answer, and the rules give yes exactly where that answer is a yes.
-use Rattle.std.proofs.Common.{◌≡◌, ℕ, zero, suc, Bool, true, false, cond, not, ◌&&◌, ◌||◌, ◌⊎◌, List, [], ◌∷◌, Some, Decides, sym, refl, subst, inl, inr, ⊎_elim, true≢false}
+use Rattle.std.proofs.Common.{◌≡◌, ℕ, zero, suc, Bool, true, false, cond, not, ◌&&◌, ◌||◌, ◌⊎◌, List, [], ◌∷◌, Some, Decides, sym, refl, subst, inl, inr, ⊎_elim, arith}
+use Rattle.std.specs.List.{filter, list_all, list_any}
 use Rattle.std.proofs.lemmas.Bool.Decides.{Decides-and, Decides-or, Decides-not, Decides-like}
+use Rattle.std.proofs.lemmas.Option.{same_Some}
 use Rattle.rights.specs.declared.commands.Answer.{Answer}
 use Rattle.rights.specs.declared.commands.Ground.{Ground}
 use Rattle.rights.specs.declared.entries.Entry.{Entry}
@@ -17,21 +19,21 @@ use Rattle.rights.specs.Pairs.{pair}
 use Rattle.rights.specs.Tables.{Tables, IsBase, IsView, Names, Beneath, Levelled}
 use Rattle.rights.specs.Within.{Path, here, step, Within}
 use Rattle.rights.proofs.Checks.{first_unique, first_decided}
-use Rattle.rights.proofs.Deciding.{some_test, each_test, passing, passing_in, passing_from, decides_some, decides_each, decides_always, either_way}
+use Rattle.rights.proofs.Deciding.{in_filter, filter_in, decides_some, decides_each, decided_yes, decided_no, either_way}
 use Rattle.rights.proofs.Grounds.{Says, answers_says, says_answers}
 use Rattle.rights.proofs.Holding.{holds_test, strong_plus_test, strong_minus_test, weak_at_test, decides_holds, decides_strong_plus, decides_strong_minus, decides_weak_at}
-use Rattle.rights.proofs.Tables.{Low, base_test, view_test, owns_test, beneath_test, names_of, decides_base, decides_view, decides_owns, decides_beneath, names_in, in_names, low_named, low_names_none, levels_of, some_same}
+use Rattle.rights.proofs.Tables.{Low, base_test, view_test, owns_test, beneath_test, names_of, decides_base, decides_view, decides_owns, decides_beneath, names_in, in_names, low_named, low_names_none, levels_of}
 use Rattle.rights.proofs.Within.{within_refl, within_step, within_back}
 
 -- a path with the property at every subject but the last is a path along the pairs whose member has it
 module _ (pairs : List Pair) (P : ℕ → Type 0) (f : ℕ → Bool) (d : (s : ℕ) → Decides (f s) (P s)) where
   abbrev pub pairs_from : List Pair
-  pairs_from = passing (λ a. f a.member) pairs
+  pairs_from = filter (λ a. f a.member) pairs
 
   pub along_within : {u s : ℕ} {l : List ℕ} → Path pairs u s l → ButLast P l → Within pairs_from u s
   along_within (here {s}) b = within_refl pairs_from s
-  along_within (step {m} {h} {g} i here) b = within_step pairs_from m h g (passing_in (λ a. f a.member) pairs (pair m h) i ((d m).1 b.0)) (within_refl pairs_from h)
-  along_within (step {m} {h} {g} i (step j q)) b = within_step pairs_from m h g (passing_in (λ a. f a.member) pairs (pair m h) i ((d m).1 b.0)) (along_within (step j q) b.1)
+  along_within (step {m} {h} {g} i here) b = within_step pairs_from m h g (in_filter (λ a. f a.member) pairs (pair m h) i ((d m).1 b.0)) (within_refl pairs_from h)
+  along_within (step {m} {h} {g} i (step j q)) b = within_step pairs_from m h g (in_filter (λ a. f a.member) pairs (pair m h) i ((d m).1 b.0)) (along_within (step j q) b.1)
 
   -- some path leads from u to s with the property before its end
   abbrev pub Along : ℕ → ℕ → Type 0
@@ -45,15 +47,15 @@ module _ (pairs : List Pair) (P : ℕ → Type 0) (f : ℕ → Bool) (d : (s : �
   within_along u s w = within_back pairs_from (λ x. Along x s) pass u s w (s ∷ [], here, tt)
     where
       pass : (m h : ℕ) → In (pair m h) pairs_from → Along h s → Along m s
-      pass m h i a = let k = passing_from (λ a. f a.member) pairs (pair m h) i in (m ∷ a.0, step k.0 a.1, but_last_more m a.1 ((d m).0 k.1) a.2)
+      pass m h i a = let k = filter_in (λ a. f a.member) pairs (pair m h) i in (m ∷ a.0, step k.0 a.1, but_last_more m a.1 ((d m).0 k.1) a.2)
 
 module _ (pairs : List Pair) (tables : Tables) (entries : List Entry) where
   -- the pairs whose member has no weak entry of the other sign itself
   abbrev pub unblocked : Privilege → Sign → ℕ → List Pair
-  unblocked p sign t = passing (λ a. not (weak_at_test pairs tables entries p (other sign) t a.member)) pairs
+  unblocked p sign t = filter (λ a. not (weak_at_test pairs tables entries p (other sign) t a.member)) pairs
 
   unblocked_decides : (p : Privilege) (sign : Sign) (t s : ℕ) → Decides (not (weak_at_test pairs tables entries p (other sign) t s)) (WeakAt pairs tables entries p (other sign) t s → ⊥)
-  unblocked_decides p sign t s = Decides-not (weak_at_test pairs tables entries p (other sign) t s) (decides_weak_at pairs tables entries p (other sign) t s)
+  unblocked_decides p sign t s = Decides-not _ (decides_weak_at pairs tables entries p (other sign) t s)
 
   -- a weak entry applies exactly if it is held along those pairs
   pub applies_holds : (u : ℕ) (p : Privilege) (sign : Sign) (t : ℕ) → Applies pairs tables entries u p sign t → Holds (unblocked p sign t) entries u p sign t Strength.Weak
@@ -73,14 +75,14 @@ module _ (pairs : List Pair) (tables : Tables) (entries : List Entry) where
   applies_test u p sign t = holds_test (unblocked p sign t) entries u p sign t Strength.Weak
 
   pub decides_applies : (u : ℕ) (p : Privilege) (sign : Sign) (t : ℕ) → Decides (applies_test u p sign t) (Applies pairs tables entries u p sign t)
-  decides_applies u p sign t = Decides-like (applies_test u p sign t) (holds_applies u p sign t) (applies_holds u p sign t) (decides_holds (unblocked p sign t) entries u p sign t Strength.Weak)
+  decides_applies u p sign t = Decides-like _ (holds_applies u p sign t) (applies_holds u p sign t) (decides_holds (unblocked p sign t) entries u p sign t Strength.Weak)
 
   abbrev pub weakly_test : ℕ → Privilege → ℕ → Bool
   weakly_test u p t = let minus = applies_test u p Sign.Minus t in applies_test u p Sign.Plus t && not minus
 
   pub decides_weakly : (u : ℕ) (p : Privilege) (t : ℕ) → Decides (weakly_test u p t) (Weakly pairs tables entries u p t)
   unfolding Weakly
-  decides_weakly u p t = Decides-and (applies_test u p Sign.Plus t) (not (applies_test u p Sign.Minus t)) (decides_applies u p Sign.Plus t) (Decides-not (applies_test u p Sign.Minus t) (decides_applies u p Sign.Minus t))
+  decides_weakly u p t = Decides-and _ _ (decides_applies u p Sign.Plus t) (Decides-not _ (decides_applies u p Sign.Minus t))
 
   -- a base table beneath t with a strong minus is the table of an entry
   abbrev pub denied_by_test : ℕ → ℕ → Privilege → ℕ → ℕ → Bool
@@ -90,12 +92,12 @@ module _ (pairs : List Pair) (tables : Tables) (entries : List Entry) where
       base_test tables b && beneath
 
   abbrev pub denied_test : ℕ → ℕ → Privilege → ℕ → Bool
-  denied_test n u p t = let deep = some_test (λ e. denied_by_test n u p t e.table) entries in strong_minus_test pairs entries u p t || deep
+  denied_test n u p t = let deep = list_any (λ e. denied_by_test n u p t e.table) entries in strong_minus_test pairs entries u p t || deep
 
   pub decides_denied : (n u : ℕ) (p : Privilege) (t : ℕ) → Low tables n t → Decides (denied_test n u p t) (Denied pairs tables entries u p t)
   unfolding Denied StrongMinus Holds
-  decides_denied n u p t low = Decides-or (strong_minus_test pairs entries u p t) (some_test (λ e. denied_by_test n u p t e.table) entries) (decides_strong_minus pairs entries u p t)
-      (Decides-like (some_test (λ e. denied_by_test n u p t e.table) entries)
+  decides_denied n u p t low = Decides-or _ _ (decides_strong_minus pairs entries u p t)
+      (Decides-like _
       (λ h. (h.0.table, h.2.0, h.2.1.0, h.2.1.1))
       (λ h. let m = h.3 in (m.0, m.1, subst At (sym m.2.0) (h.1, (h.2, h.3))))
       (decides_some (λ e. At e.table) (λ e. denied_by_test n u p t e.table) entries (λ e _. one e.table)))
@@ -104,8 +106,8 @@ module _ (pairs : List Pair) (tables : Tables) (entries : List Entry) where
       At b = IsBase tables b × (Beneath tables b t × StrongMinus pairs entries u p b)
 
       one : (b : ℕ) → Decides (denied_by_test n u p t b) (At b)
-      one b = Decides-and (base_test tables b) (beneath_test tables n b t && strong_minus_test pairs entries u p b) (decides_base tables b)
-          (Decides-and (beneath_test tables n b t) (strong_minus_test pairs entries u p b) (decides_beneath tables n b t low) (decides_strong_minus pairs entries u p b))
+      one b = Decides-and _ _ (decides_base tables b)
+          (Decides-and _ _ (decides_beneath tables n b t low) (decides_strong_minus pairs entries u p b))
 
   -- the rules give yes: strongly, or without a denial weakly or by the tables named
   abbrev GivesYes : ℕ → Privilege → ℕ → Type 0
@@ -127,15 +129,15 @@ module _ (pairs : List Pair) (tables : Tables) (entries : List Entry) where
   yes_test n u p t b = let more = not (denied_test n u p t) && (weakly_test u p t || b) in strong_plus_test pairs tables entries u p t || more
 
   pub decides_yes : (n u : ℕ) (p : Privilege) (t : ℕ) (b : Bool) → Low tables n t → Decides b (ByNames pairs tables entries u p t) → Decides (yes_test n u p t b) (Granted pairs tables entries u p t)
-  decides_yes n u p t b low k = Decides-like (yes_test n u p t b) (yes_granted u p t) granted_yes
-      (Decides-or (strong_plus_test pairs tables entries u p t) (not (denied_test n u p t) && (weakly_test u p t || b)) (decides_strong_plus pairs tables entries u p t)
-      (Decides-and (not (denied_test n u p t)) (weakly_test u p t || b) (Decides-not (denied_test n u p t) (decides_denied n u p t low))
-      (Decides-or (weakly_test u p t) b (decides_weakly u p t) k)))
+  decides_yes n u p t b low k = Decides-like _ (yes_granted u p t) granted_yes
+      (Decides-or _ _ (decides_strong_plus pairs tables entries u p t)
+      (Decides-and _ _ (Decides-not _ (decides_denied n u p t low))
+      (Decides-or _ _ (decides_weakly u p t) k)))
 
   abbrev pub by_names_test : ℕ → ℕ → Privilege → ℕ → Bool
   by_names_test zero u p t = false
   by_names_test (suc n) u p t =
-      let all = each_test (λ d. yes_test n u p d (by_names_test n u p d)) (names_of (tables t)) in
+      let all = list_all (λ d. yes_test n u p d (by_names_test n u p d)) (names_of (tables t)) in
       view_test tables t && (owns_test tables u t && all)
 
   abbrev pub granted_test : ℕ → ℕ → Privilege → ℕ → Bool
@@ -151,12 +153,12 @@ module _ (pairs : List Pair) (tables : Tables) (entries : List Entry) where
 
   pub decides_by_names : (n u : ℕ) (p : Privilege) (t : ℕ) → Low tables n t → Decides (by_names_test n u p t) (ByNames pairs tables entries u p t)
   unfolding ByNames
-  decides_by_names zero u p t low = (λ e. absurd (true≢false (sym e)), λ h. let d = view_names t h.0 in absurd (low_names_none tables t d.0 low d.1))
-  decides_by_names (suc n) u p t low = Decides-like (by_names_test (suc n) u p t)
+  decides_by_names zero u p t low = decided_no (λ h. let d = view_names t h.0 in low_names_none tables t d.0 low d.1)
+  decides_by_names (suc n) u p t low = Decides-like _
       (λ h. (h.0, h.1.0, λ d i. h.1.1 d (names_in tables t d i)))
       (λ h. (h.0, (h.1, λ d i. h.2 d (in_names tables t d i))))
-      (Decides-and (view_test tables t) (owns_test tables u t && each_test (λ d. yes_test n u p d (by_names_test n u p d)) (names_of (tables t))) (decides_view tables t)
-      (Decides-and (owns_test tables u t) (each_test (λ d. yes_test n u p d (by_names_test n u p d)) (names_of (tables t))) (decides_owns tables u t)
+      (Decides-and _ _ (decides_view tables t)
+      (Decides-and _ _ (decides_owns tables u t)
       (decides_each (Granted pairs tables entries u p) (λ d. yes_test n u p d (by_names_test n u p d)) (names_of (tables t))
       (λ d i. let l = low_named tables n t d low (in_names tables t d i) in decides_yes n u p d (by_names_test n u p d) l (decides_by_names n u p d l)))))
 
@@ -166,7 +168,7 @@ module _ (pairs : List Pair) (tables : Tables) (entries : List Entry) where
   -- two answers to one question are equal
   pub answers_unique : (u : ℕ) (p : Privilege) (t : ℕ) (a b : Answer) → Answers pairs tables entries u p t a → Answers pairs tables entries u p t b → a ≡ b
   unfolding Answers
-  answers_unique u p t a b h k = some_same a b (first_unique (rules pairs tables entries u p t) (Some a) (Some b) h k)
+  answers_unique u p t a b h k = same_Some a b (first_unique (rules pairs tables entries u p t) (Some a) (Some b) h k)
 
   -- the answer by the tests
   abbrev pub answer : ℕ → ℕ → Privilege → ℕ → Answer
@@ -180,15 +182,11 @@ module _ (pairs : List Pair) (tables : Tables) (entries : List Entry) where
   unfolding Answers rules
   answers n u p t low = subst (First (rules pairs tables entries u p t)) (settled (strong_plus_test pairs tables entries u p t) (denied_test n u p t) (weakly_test u p t) (by_names_test n u p t))
       (first_decided (rules pairs tables entries u p t) (strong_plus_test pairs tables entries u p t ∷ denied_test n u p t ∷ weakly_test u p t ∷ by_names_test n u p t ∷ true ∷ [])
-      (decides_strong_plus pairs tables entries u p t, (decides_denied n u p t low, (decides_weakly u p t, (decides_by_names n u p t low, (decides_always, tt))))))
+      (decides_strong_plus pairs tables entries u p t, (decides_denied n u p t low, (decides_weakly u p t, (decides_by_names n u p t low, (decided_yes tt, tt))))))
     where
       settled : (b c d e : Bool) → cond b (Some (Answer.Yes Ground.Strong)) (cond c (Some (Answer.No Ground.Strong)) (cond d (Some (Answer.Yes Ground.Weak)) (cond e (Some (Answer.Yes Ground.Named)) (Some (Answer.No Ground.Nothing)))))
           ≡ Some (cond b (Answer.Yes Ground.Strong) (cond c (Answer.No Ground.Strong) (cond d (Answer.Yes Ground.Weak) (cond e (Answer.Yes Ground.Named) (Answer.No Ground.Nothing)))))
-      settled true c d e = refl
-      settled false true d e = refl
-      settled false false true e = refl
-      settled false false false true = refl
-      settled false false false false = refl
+      settled b c d e = grind arith
 
   -- where every table has a level, every question has an answer
   pub answered : Levelled tables → (u : ℕ) (p : Privilege) (t : ℕ) → (a : Answer) × Answers pairs tables entries u p t a

@@ -1,49 +1,52 @@
 -- Laws of chains. They grow with what stands; the entries with a chain are the least set that holds every
 -- standing entry supported by members of it; marking one supported entry after the other finds them all.
-use Rattle.std.proofs.Common.{◌≡◌, ℕ, zero, suc, ◌≤◌, Bool, false, eqb, ◌⊎◌, List, [], ◌∷◌, ◌++◌, length, Some, None, Decides, Option, sym, refl, subst, inl, inr, ⊎_elim, arith}
-use Rattle.std.proofs.lemmas.Bool.{cases_Bool, eqb-false, ne_eqb}
-use Rattle.std.proofs.lemmas.Bool.Decides.{not_from_Decides, Decides-like}
+use Rattle.std.proofs.Common.{◌≡◌, ℕ, zero, suc, ◌≤◌, Bool, true, false, not, eqb, ◌⊎◌, List, [], ◌∷◌, ◌++◌, length, Decides, sym, refl, ap, subst, inl, inr, ⊎_elim, arith}
+use Rattle.std.specs.List.{filter, list_any}
+use Rattle.std.proofs.lemmas.Bool.{cases_Bool, not_from_false}
+use Rattle.std.proofs.lemmas.Bool.Decides.{Decides-eqb, Decides-not, Decides-like}
+use Rattle.std.proofs.lemmas.List.Filters.{length-filter_both}
 use Rattle.rights.specs.declared.entries.Entry.{Entry}
 use Rattle.rights.specs.Chain.{Chain, HasChain, Others, Revoked}
 use Rattle.rights.specs.Cover.{Supported}
 use Rattle.rights.specs.Entries.{same_entry}
 use Rattle.rights.specs.Lists.{In, Parted, Inside}
 use Rattle.rights.specs.Tables.{Tables, unmade, Names, Levelled, Extends}
-use Rattle.rights.proofs.Cover.{supported_grows, supported_extends, supported_apart, supported_or_not}
-use Rattle.rights.proofs.Deciding.{some_test, passing, decides_in, decides_from_cases, either_way}
+use Rattle.rights.proofs.Cover.{supported_grows, supported_extends, supported_apart, supported_test, decides_supported}
+use Rattle.rights.proofs.Deciding.{OrNot, decides_in, in_filter, filter_in, either_way}
 use Rattle.rights.proofs.Order.{decides_same}
-use Rattle.rights.proofs.Parts.{failing, find, Sought, in_left, in_right, find_sought, failing_in, in_failing, parted_same, parted_by, parted_kept, kept_parted}
-use Rattle.rights.proofs.Within.{OrNot}
+use Rattle.rights.proofs.Parts.{in_left, in_right, parted_same, parted_by, parted_kept, kept_parted}
+use Rattle.rights.proofs.Tables.{levels_of}
 
--- marking by a test of support: one entry of the rest after the other, while some is supported by the marked
-abbrev pub onward : (List Entry → List Entry → List Entry) → List Entry → Option (Entry × List Entry) → List Entry
-onward next marked None = marked
-onward next marked (Some r) = next (r.0 ∷ marked) r.1
+-- marking by a test of support, round after round: the rest that the marked support join them, until none does
+abbrev pub onward : (List Entry → List Entry) → List Entry → List Entry → List Entry
+onward next marked [] = marked
+onward next marked (x ∷ more) = next (x ∷ more)
 
 abbrev pub marks : (List Entry → Entry → Bool) → ℕ → List Entry → List Entry → List Entry
 marks test zero marked rest = marked
-marks test (suc n) marked rest = onward (λ m l. marks test n m l) marked (find (test marked) rest)
+marks test (suc n) marked rest = onward (λ more. marks test n (more ++ marked) (filter (λ e. not (test marked e)) rest)) marked (filter (test marked) rest)
 
 -- whether e is one of those marked
 abbrev pub among : List Entry → Entry → Bool
-among l e = some_test (λ f. same_entry e f) l
+among l e = list_any (λ f. same_entry e f) l
 
 -- whether e has a chain among the entries of a list, and among those other than the named one, by a test of support
 abbrev pub chain_test : (List Entry → Entry → Bool) → List Entry → Entry → Bool
 chain_test test entries = among (marks test (length entries) [] entries)
 
 abbrev pub others_of : Entry → List Entry → List Entry
-others_of named entries = failing (λ e. same_entry e named) entries
+others_of named entries = filter (λ e. not (same_entry e named)) entries
+
+-- what stands and what is supported there stands and is supported here
+chain_like : (tables more : Tables) (Standing More : Entry → Type 0) → ((e : Entry) → Standing e → More e) → ((l : List Entry) (e : Entry) → Supported tables l e → Supported more l e) → (l : List Entry) → Chain tables Standing l → Chain more More l
+chain_like tables more Standing More stand support [] c = tt
+chain_like tables more Standing More stand support (e ∷ l) c = (stand e c.0, support l e c.1, chain_like tables more Standing More stand support l c.2)
 
 module _ (tables : Tables) where
-  pub chain_grows : (Standing More : Entry → Type 0) → ((e : Entry) → Standing e → More e) → (l : List Entry) → Chain tables Standing l → Chain tables More l
-  chain_grows Standing More more [] c = tt
-  chain_grows Standing More more (e ∷ l) c = (more e c.0, c.1, chain_grows Standing More more l c.2)
-
   -- the more stands, the more entries have a chain
   pub has_chain_grows : (Standing More : Entry → Type 0) → ((e : Entry) → Standing e → More e) → (e : Entry) → HasChain tables Standing e → HasChain tables More e
   unfolding HasChain
-  has_chain_grows Standing More more e c = (c.0, chain_grows Standing More more (e ∷ c.0) c.1)
+  has_chain_grows Standing More more e c = (c.0, chain_like tables tables Standing More more (λ _ _ s. s) (e ∷ c.0) c.1)
 
   module _ (Standing : Entry → Type 0) where
     chain_join : (l m : List Entry) → Chain tables Standing l → Chain tables Standing m → Chain tables Standing (l ++ m)
@@ -117,52 +120,67 @@ module _ (tables : Tables) where
           complete = closed_round marked (λ e s u. ⊎_elim (λ i. i) (λ i. absurd (nothing e i u)) (m.every e s));
         }
 
-    marking_more : (marked rest : List Entry) (x : Entry) (l : List Entry) → Marking marked rest → Supported tables marked x → In x rest → Inside l rest → ((e : Entry) → In e rest → (e ≡ x) ⊎ In e l) → Marking (x ∷ marked) l
-    marking_more marked rest x l m u i part split =
-        record {
-          chain = (m.stand x i, u, m.chain);
-          stand = λ e j. m.stand e (part e j);
-          every = λ e s. ⊎_elim (λ j. inl (inr j)) (λ j. ⊎_elim (λ q. inl (inl q)) inr (split e j)) (m.every e s);
-        }
+    chain_more : (marked more : List Entry) → Chain tables Standing marked → ((e : Entry) → In e more → Standing e × Supported tables marked e) → Chain tables Standing (more ++ marked)
+    chain_more marked [] c h = c
+    chain_more marked (e ∷ more) c h =
+        let k = h e (inl refl) in
+        (k.0, supported_grows tables marked (more ++ marked) (λ x i. in_right x more marked i) e k.1, chain_more marked more c (λ x i. h x (inr i)))
 
   module _ (Standing : Entry → Type 0) (test : List Entry → Entry → Bool) (judges : (m : List Entry) (e : Entry) → Decides (test m e) (Supported tables m e)) where
-    -- the rest's length is turns enough, since each turn takes one entry from it
+    marking_more : (marked rest : List Entry) → Marking Standing marked rest → Marking Standing (filter (test marked) rest ++ marked) (filter (λ e. not (test marked e)) rest)
+    marking_more marked rest m =
+        record {
+          chain = chain_more Standing marked (filter (test marked) rest) m.chain (λ e i. let h = filter_in (test marked) rest e i in (m.stand e h.0, (judges marked e).0 h.1));
+          stand = λ e i. m.stand e (filter_in (λ e. not (test marked e)) rest e i).0;
+          every = λ e s. ⊎_elim (λ i. inl (in_right e (filter (test marked) rest) marked i)) (λ i. split e i (cases_Bool (test marked e))) (m.every e s);
+        }
+      where
+        split : (e : Entry) → In e rest → (test marked e ≡ true) ⊎ (test marked e ≡ false) → In e (filter (test marked) rest ++ marked) ⊎ In e (filter (λ e. not (test marked e)) rest)
+        split e i (inl t) = inl (in_left e (filter (test marked) rest) marked (in_filter (test marked) rest e i t))
+        split e i (inr f) = inr (in_filter (λ e. not (test marked e)) rest e i (not_from_false _ f))
+
+    -- the rest's length is rounds enough, since each round takes some entry from it
     pub marks_all : (n : ℕ) (marked rest : List Entry) → length rest ≤ n → Marking Standing marked rest → Marked Standing (marks test n marked rest)
     marks_all zero marked [] h m = marking_done Standing marked [] m (λ e i. absurd i)
     marks_all zero marked (x ∷ rest) h m = absurd (omega arith)
-    marks_all (suc n) marked rest h m = by (find (test marked) rest) (find_sought (test marked) rest) (λ a l. marks_all n a l)
+    marks_all (suc n) marked rest h m = by (filter (test marked) rest) refl (λ a l. marks_all n a l)
       where
-        by : (o : Option (Entry × List Entry)) → Sought (test marked) rest o → ((a l : List Entry) → length l ≤ n → Marking Standing a l → Marked Standing (marks test n a l)) → Marked Standing (onward (λ a l. marks test n a l) marked o)
-        by None s next = marking_done Standing marked rest m (λ e i. not_from_Decides (test marked e) (judges marked e) (s e i))
-        by (Some (x, l)) s next = next (x ∷ marked) l (omega (arith, s.fewer)) (marking_more Standing marked rest x l m ((judges marked x).0 s.passes) s.stood s.others s.or_else)
+        left : List Entry
+        left = filter (λ e. not (test marked e)) rest
+
+        by : (more : List Entry) → filter (test marked) rest ≡ more → ((a l : List Entry) → length l ≤ n → Marking Standing a l → Marked Standing (marks test n a l)) → Marked Standing (onward (λ more. marks test n (more ++ marked) left) marked more)
+        by [] e next = marking_done Standing marked rest m (λ x i u. subst (In x) e (in_filter (test marked) rest x i ((judges marked x).1 u)))
+        by (x ∷ more) e next =
+            let both = length-filter_both (test marked) (λ e. not (test marked e)) (λ _. refl) rest in
+            let some = ap length e in
+            next ((x ∷ more) ++ marked) left (omega arith) (subst (λ l. Marking Standing (l ++ marked) left) e (marking_more marked rest m))
 
   marked_decides : (Standing : Entry → Type 0) (l : List Entry) → Marked Standing l → (e : Entry) → Decides (among l e) (HasChain tables Standing e)
   marked_decides Standing l m e = Decides-like _ (m.sound e) (m.complete e) (decides_in same_entry decides_same e l)
 
   module _ (test : List Entry → Entry → Bool) (judges : (m : List Entry) (e : Entry) → Decides (test m e) (Supported tables m e)) where
-    pub decides_chain : (entries : List Entry) (e : Entry) → Decides (chain_test test entries e) (HasChain tables (λ f. In f entries) e)
-    decides_chain entries =
-        let start : Marking (λ f. In f entries) [] entries = record { chain = tt; stand = λ e i. i; every = λ e i. inr i } in
-        marked_decides (λ f. In f entries) _ (marks_all (λ f. In f entries) test judges (length entries) [] entries (omega arith) start)
+    -- where the entries are those that stand
+    decides_chain_in : (Standing : Entry → Type 0) (entries : List Entry) → ((e : Entry) → In e entries → Standing e) → ((e : Entry) → Standing e → In e entries) → (e : Entry) → Decides (chain_test test entries e) (HasChain tables Standing e)
+    decides_chain_in Standing entries stand every =
+        marked_decides Standing _ (marks_all Standing test judges (length entries) [] entries (omega arith) (record { chain = tt; stand = stand; every = λ e s. inr (every e s) }))
 
-    others_marking : (named : Entry) (entries : List Entry) → Marking (Others entries named) [] (others_of named entries)
-    others_marking named entries =
-        record {
-          chain = tt;
-          stand = λ e i. let r = failing_in (λ f. same_entry f named) entries e i in (r.0, not_from_Decides (same_entry e named) (decides_same e named) r.1);
-          every = λ e s. inr (in_failing (λ f. same_entry f named) entries e s.0 (differs e s.1));
-        }
-      where
-        differs : (e : Entry) → (e ≡ named → ⊥) → same_entry e named ≡ false
-        differs e n = ⊎_elim (λ t. absurd (n ((decides_same e named).0 t))) (λ f. f) (cases_Bool (same_entry e named))
+    pub decides_chain : (entries : List Entry) (e : Entry) → Decides (chain_test test entries e) (HasChain tables (λ f. In f entries) e)
+    decides_chain entries = decides_chain_in (λ f. In f entries) entries (λ _ i. i) (λ _ i. i)
 
     pub decides_others : (named : Entry) (entries : List Entry) (e : Entry) → Decides (chain_test test (others_of named entries) e) (HasChain tables (Others entries named) e)
     decides_others named entries =
-        marked_decides (Others entries named) _
-        (marks_all (Others entries named) test judges (length (others_of named entries)) [] (others_of named entries) (omega arith) (others_marking named entries))
+        decides_chain_in (Others entries named) (others_of named entries)
+        (λ e i. let h = filter_in differs entries e i in (h.0, (decides_differs e).0 h.1))
+        (λ e s. in_filter differs entries e s.0 ((decides_differs e).1 s.1))
+      where
+        differs : Entry → Bool
+        differs e = not (same_entry e named)
+
+        decides_differs : (e : Entry) → Decides (not (same_entry e named)) (e ≡ named → ⊥)
+        decides_differs e = Decides-not _ (decides_same e named)
 
     -- what a revocation keeps and strikes, by the test
-    pub revoked_by : (named : Entry) (entries : List Entry) → Revoked tables named entries (passing (chain_test test (others_of named entries)) entries) (failing (chain_test test (others_of named entries)) entries)
+    pub revoked_by : (named : Entry) (entries : List Entry) → Revoked tables named entries (filter (chain_test test (others_of named entries)) entries) (filter (λ e. not (chain_test test (others_of named entries) e)) entries)
     unfolding Revoked
     revoked_by named entries = parted_by (HasChain tables (Others entries named)) _ entries (decides_others named entries)
 
@@ -201,11 +219,11 @@ module _ (tables : Tables) where
 -- where every table that stands has a level, chains are decidable, and a revocation has an outcome
 module _ (tables : Tables) (levels : Levelled tables) where
   support_test : List Entry → Entry → Bool
-  support_test m e = (decides_from_cases (supported_or_not tables levels m e)).0
+  support_test m e = supported_test tables (levels_of tables levels e.table).0 m e
 
   support_judges : (m : List Entry) (e : Entry) → Decides (support_test m e) (Supported tables m e)
   unfolding support_test
-  support_judges m e = (decides_from_cases (supported_or_not tables levels m e)).1
+  support_judges m e = decides_supported tables _ m e (levels_of tables levels e.table).1
 
   pub chain_or_not : (entries : List Entry) (e : Entry) → OrNot (HasChain tables (λ f. In f entries) e)
   chain_or_not entries e = either_way _ (decides_chain tables support_test support_judges entries e)
@@ -215,13 +233,9 @@ module _ (tables : Tables) (levels : Levelled tables) where
 
 -- chains stay when tables are made
 module _ (tables more : Tables) (keeps : Extends tables more) (Standing : Entry → Type 0) where
-  chain_extends : (l : List Entry) → Chain tables Standing l → Chain more Standing l
-  chain_extends [] c = tt
-  chain_extends (e ∷ l) c = (c.0, supported_extends tables more keeps l e c.1, chain_extends l c.2)
-
   pub has_chain_extends : (e : Entry) → HasChain tables Standing e → HasChain more Standing e
   unfolding HasChain
-  has_chain_extends e c = (c.0, chain_extends (e ∷ c.0) c.1)
+  has_chain_extends e c = (c.0, chain_like tables more Standing Standing (λ _ s. s) (supported_extends tables more keeps) (e ∷ c.0) c.1)
 
 -- and those of entries on other tables when one is dropped that no view names
 pub dropped_upheld : (tables : Tables) (t : ℕ) → ((v : ℕ) → Names tables v t → ⊥) → (entries kept out : List Entry) → Parted (λ (e : Entry). e.table ≡ t → ⊥) entries kept out → ((e : Entry) → In e entries → HasChain tables (λ f. In f entries) e) → (e : Entry) → In e kept → HasChain (unmade t tables) (λ f. In f kept) e
@@ -232,11 +246,14 @@ dropped_upheld tables t free entries kept out p all e i =
     Left : Entry → Type 0
     Left f = (f.table ≡ t → ⊥) → HasChain (unmade t tables) (λ g. In g kept) f
 
-    there : Entry → Bool
-    there f = eqb f.table t
+    elsewhere : Entry → Bool
+    elsewhere f = not (eqb f.table t)
+
+    decides_elsewhere : (f : Entry) → Decides (elsewhere f) (f.table ≡ t → ⊥)
+    decides_elsewhere f = Decides-not _ (Decides-eqb f.table t)
 
     step : (f : Entry) → In f entries → (l : List Entry) → ((g : Entry) → In g l → Left g) → Supported tables l f → Left f
     step f s l h u apart =
-        supported_has_chain (unmade t tables) (λ g. In g kept) f (parted_kept (λ (e : Entry). e.table ≡ t → ⊥) p f s apart) (failing there l)
-        (λ g j. let r = failing_in there l g j in h g r.0 (eqb-false g.table t r.1))
-        (supported_apart tables t free l (failing there l) (λ g j n. in_failing there l g j (ne_eqb g.table t n)) f u apart)
+        supported_has_chain (unmade t tables) (λ g. In g kept) f (parted_kept (λ (e : Entry). e.table ≡ t → ⊥) p f s apart) (filter elsewhere l)
+        (λ g j. let r = filter_in elsewhere l g j in h g r.0 ((decides_elsewhere g).0 r.1))
+        (supported_apart tables t free l (filter elsewhere l) (λ g j n. in_filter elsewhere l g j ((decides_elsewhere g).1 n)) f u apart)

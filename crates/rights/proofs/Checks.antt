@@ -1,14 +1,15 @@
 -- The laws of the first check that applies: one answer, found where every condition is decided, the same for like conditions.
-use Rattle.std.proofs.Common.{◌≡◌, ℕ, Bool, true, false, cond, ◌⊎◌, List, [], ◌∷◌, ◌++◌, Some, None, Decides, Option, sym, refl, ap, ◌∙◌, subst, inl, inr, ⊎_elim, arith}
+use Rattle.std.proofs.Common.{◌≡◌, Bool, true, false, cond, ◌⊎◌, List, [], ◌∷◌, ◌++◌, Some, None, Decides, Option, sym, refl, ap, ◌∙◌, subst, inl, inr, ⊎_elim}
 use Rattle.std.proofs.lemmas.Bool.Decides.{not_from_Decides}
+use Rattle.std.proofs.lemmas.Option.{none-some}
 use Rattle.rights.specs.Checks.{Check, First}
 
 module _ {F : Type 0} where
   pub some_none : (f : F) → Some f ≡ None → ⊥
-  some_none f e = let z : ◌≡◌ {A = ℕ} 0 1 = cc in omega arith
+  some_none f e = none-some f (sym e)
 
   pub none_some : (f : F) → None ≡ Some f → ⊥
-  none_some f e = some_none f (sym e)
+  none_some = none-some
 
   pub first_none : (r : Option F) → r ≡ None → First [] r
   unfolding First
@@ -56,11 +57,8 @@ module _ {F : Type 0} where
   first_decided [] [] d = first_none None refl
   first_decided [] (b ∷ bs) d = absurd d
   first_decided (c ∷ cs) [] d = absurd d
-  first_decided (c ∷ cs) (b ∷ bs) d = by b d.0 (first_decided cs bs d.1)
-    where
-      by : (b : Bool) → Decides b c.when → First cs (first_of cs bs) → First (c ∷ cs) (cond b (Some c.gives) (first_of cs bs))
-      by true k rest = first_hit c cs (k.0 refl)
-      by false k rest = first_miss c cs (first_of cs bs) (not_from_Decides false k refl) rest
+  first_decided (c ∷ cs) (true ∷ bs) d = first_hit c cs (d.0.0 refl)
+  first_decided (c ∷ cs) (false ∷ bs) d = first_miss c cs (first_of cs bs) (not_from_Decides false d.0 refl) (first_decided cs bs d.1)
 
   -- the same answers in the same order, under conditions that hold alike
   abbrev pub Alike : List (Check F) → List (Check F) → Type 0
@@ -81,7 +79,7 @@ module _ {F : Type 0} where
   -- an answer of the first checks is one of them all
   pub first_early : (cs ds : List (Check F)) (f : F) → First cs (Some f) → First (cs ++ ds) (Some f)
   unfolding First
-  first_early [] ds f h = absurd (some_none f h)
+  first_early [] ds f h = absurd (none-some f (sym h))
   first_early (c ∷ cs) ds f (inl h) = inl h
   first_early (c ∷ cs) ds f (inr h) = inr (h.0, first_early cs ds f h.1)
 
@@ -89,5 +87,5 @@ module _ {F : Type 0} where
   pub first_late : (cs ds : List (Check F)) (r : Option F) → First cs None → First ds r → First (cs ++ ds) r
   unfolding First
   first_late [] ds r h k = k
-  first_late (c ∷ cs) ds r (inl h) k = absurd (some_none c.gives (sym h.1))
+  first_late (c ∷ cs) ds r (inl h) k = absurd (none-some c.gives h.1)
   first_late (c ∷ cs) ds r (inr h) k = inr (h.0, first_late cs ds r h.1 k)

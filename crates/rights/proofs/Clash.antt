@@ -1,6 +1,7 @@
 -- The laws of clash: it is the first and the second rule applying together where minuses stand on base tables only,
 -- it grows with the pairs, the tables and the entries, and a test decides it.
 use Rattle.std.proofs.Common.{◌≡◌, ℕ, Bool, ◌&&◌, ◌||◌, eqb, ◌⊎◌, List, [], ◌∷◌, ◌++◌, map, Decides, sym, refl, ap, subst, inl, inr, ⊎_elim}
+use Rattle.std.specs.List.{list_any}
 use Rattle.std.proofs.lemmas.Bool.Decides.{Decides-eqb, Decides-and, Decides-or, Decides-like}
 use Rattle.rights.specs.declared.entries.Entry.{Entry}
 use Rattle.rights.specs.declared.entries.Pair.{Pair}
@@ -15,11 +16,11 @@ use Rattle.rights.specs.Lists.{In, Inside}
 use Rattle.rights.specs.Pairs.{pair}
 use Rattle.rights.specs.Tables.{Tables, IsBase, AtOrBeneath, Levelled, Extends}
 use Rattle.rights.specs.Within.{Within, Below}
-use Rattle.rights.proofs.Deciding.{SomeIn, some_test, decides_some, either_way}
-use Rattle.rights.proofs.Holding.{same_right, decides_same_right, within_test, decides_within, strong_plus_test, decides_strong_plus, strong_plus_grows, strong_minus_grows}
+use Rattle.rights.proofs.Deciding.{SomeIn, decides_some, either_way}
+use Rattle.rights.proofs.Holding.{same_right, decides_same_right, strong_plus_test, decides_strong_plus, strong_plus_grows, strong_minus_grows}
 use Rattle.rights.proofs.Parts.{in_left, in_right}
 use Rattle.rights.proofs.Tables.{Low, beneath_base, beneath_extends, beneath_test, decides_beneath, levels_of}
-use Rattle.rights.proofs.Within.{within_cases}
+use Rattle.rights.proofs.Within.{within_cases, within_test, decides_within}
 
 -- more pairs, tables and entries: no less is denied, and there are no fewer clashes
 module _ (ps qs : List Pair) (pairs_in : Inside ps qs) (tables more : Tables) (keeps : Extends tables more) (es fs : List Entry) (entries_in : Inside es fs) where
@@ -145,36 +146,36 @@ module _ (pairs : List Pair) (tables : Tables) (entries : List Entry) where
         (eqb f.table e.table || beneath) && plus
 
     abbrev under_test : Privilege → Entry → ℕ → Bool
-    under_test p f s = let over = some_test (over_test s p f) entries in within_test pairs s f.subject && over
+    under_test p f s = let over = list_any (over_test s p f) entries in within_test pairs s f.subject && over
 
     abbrev meets_test : List ℕ → Entry → Privilege → Bool
-    meets_test subjects f p = let under = some_test (under_test p f) subjects in same_right f.right (Right.Access p Sign.Minus Strength.Strong) && under
+    meets_test subjects f p = let under = list_any (under_test p f) subjects in same_right f.right (Right.Access p Sign.Minus Strength.Strong) && under
 
     -- some of these subjects is a clash
     abbrev pub clash_test : List ℕ → Bool
-    clash_test subjects = some_test (λ f. some_test (meets_test subjects f) privileges) entries
+    clash_test subjects = list_any (λ f. list_any (meets_test subjects f) privileges) entries
 
     module _ (low : (t : ℕ) → Low tables (height t) t) where
       decides_over : (s : ℕ) (p : Privilege) (f e : Entry) → Decides (over_test s p f e) (Over s p f e)
-      decides_over s p f e = Decides-and (eqb f.table e.table || beneath_test tables (height e.table) f.table e.table) (strong_plus_test pairs tables entries s p e.table)
-          (Decides-or (eqb f.table e.table) (beneath_test tables (height e.table) f.table e.table) (Decides-eqb f.table e.table) (decides_beneath tables (height e.table) f.table e.table (low e.table)))
+      decides_over s p f e = Decides-and _ _
+          (Decides-or _ _ (Decides-eqb f.table e.table) (decides_beneath tables (height e.table) f.table e.table (low e.table)))
           (decides_strong_plus pairs tables entries s p e.table)
 
       decides_under : (p : Privilege) (f : Entry) (s : ℕ) → Decides (under_test p f s) (Under p f s)
-      decides_under p f s = Decides-and (within_test pairs s f.subject) (some_test (over_test s p f) entries) (decides_within pairs s f.subject) (decides_some (Over s p f) (over_test s p f) entries (λ e _. decides_over s p f e))
+      decides_under p f s = Decides-and _ _ (decides_within pairs s f.subject) (decides_some (Over s p f) (over_test s p f) entries (λ e _. decides_over s p f e))
 
       decides_meets : (subjects : List ℕ) (f : Entry) (p : Privilege) → Decides (meets_test subjects f p) (Meets subjects f p)
-      decides_meets subjects f p = Decides-and (same_right f.right (Right.Access p Sign.Minus Strength.Strong)) (some_test (under_test p f) subjects)
+      decides_meets subjects f p = Decides-and _ _
           (decides_same_right f.right (Right.Access p Sign.Minus Strength.Strong)) (decides_some (Under p f) (under_test p f) subjects (λ s _. decides_under p f s))
 
       pub decides_clash : (subjects : List ℕ) → Decides (clash_test subjects) (SomeIn (Clash pairs tables entries) subjects)
-      decides_clash subjects = Decides-like (clash_test subjects) (met_clash subjects) (clash_met subjects)
-          (decides_some (λ f. SomeIn (Meets subjects f) privileges) (λ f. some_test (meets_test subjects f) privileges) entries
+      decides_clash subjects = Decides-like _ (met_clash subjects) (clash_met subjects)
+          (decides_some (λ f. SomeIn (Meets subjects f) privileges) (λ f. list_any (meets_test subjects f) privileges) entries
           (λ f _. decides_some (Meets subjects f) (meets_test subjects f) privileges (λ p _. decides_meets subjects f p)))
 
       pub decides_clashing : Decides (clash_test candidates) (Clashing pairs tables entries)
       unfolding Clashing
-      decides_clashing = Decides-like (clash_test candidates) (λ h. (h.0, h.2)) (λ c. (c.0, clash_candidate c.0 c.1, c.1)) (decides_clash candidates)
+      decides_clashing = Decides-like _ (λ h. (h.0, h.2)) (λ c. (c.0, clash_candidate c.0 c.1, c.1)) (decides_clash candidates)
 
   pub clashing_or_not : Levelled tables → Clashing pairs tables entries ⊎ (Clashing pairs tables entries → ⊥)
   clashing_or_not levels = either_way (clash_test (λ t. (levels_of tables levels t).0) candidates) (decides_clashing (λ t. (levels_of tables levels t).0) (λ t. (levels_of tables levels t).1))

@@ -1,14 +1,14 @@
 -- The contrasts, computed by the tests of the rules.
-use Rattle.std.proofs.Common.{◌≡◌, ℕ, false, [], refl, subst, ⊎_elim, arith}
+use Rattle.std.proofs.Common.{◌≡◌, ℕ, false, [], refl, subst, ⊎_elim}
 use Rattle.std.proofs.lemmas.Bool.Decides.{not_from_Decides}
 use Rattle.rights.specs.declared.entries.Entry.{Entry}
 use Rattle.rights.specs.Contrasts.{Example, commands_of, struck_of, answers_of, Shows, delegates, oneself, every_named, one_entry, EachOther, Itself, owned_five}
 use Rattle.rights.specs.Cover.{Supported}
 use Rattle.rights.specs.Read.{admin_entry}
-use Rattle.rights.specs.Tables.{no_tables, over_none}
 use Rattle.rights.proofs.Chain.{closed_round}
 use Rattle.rights.proofs.Cover.{supported_test, decides_supported}
-use Rattle.rights.proofs.Tables.{Low, low_made, low_none}
+use Rattle.rights.proofs.Scenes.{base_low}
+use Rattle.rights.proofs.Tables.{Low}
 use Rattle.rights.proofs.Worked.{computed, leads}
 
 shown : (x : Example) → (computed (commands_of x)).struck ≡ struck_of x → (computed (commands_of x)).answers ≡ answers_of x → Shows x
@@ -31,7 +31,7 @@ unfolding computed
 shows_one_entry = shown one_entry refl refl
 
 five_low : (t : ℕ) → Low owned_five 0 t
-five_low = low_made no_tables 5 (record { owner = 1; names = [] }) 0 0 (low_none 0) refl over_none (omega arith)
+five_low = base_low 0 5 1
 
 unsupported : (e : Entry) → supported_test owned_five 0 [] e ≡ false → Supported owned_five [] e → ⊥
 unsupported e h = not_from_Decides _ (decides_supported owned_five 0 [] e (five_low e.table)) h

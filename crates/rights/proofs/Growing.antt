@@ -1,6 +1,7 @@
 -- What stays as a register grows: strong answers, and every answer about a table that was there before.
-use Rattle.std.proofs.Common.{◌≡◌, ℕ, cond, List, Some, None, sym, ap, ◌∙◌, subst, inl, inr, ⊎_elim}
-use Rattle.std.proofs.lemmas.Bool.{ne_eqb, cases_eq}
+use Rattle.std.proofs.Common.{◌≡◌, ℕ, List, Some, None, sym, ap, ◌∙◌, subst, inl, inr, ⊎_elim}
+use Rattle.std.proofs.lemmas.Bool.{cases_eq}
+use Rattle.std.proofs.lemmas.Option.{none-some}
 use Rattle.rights.specs.declared.commands.Answer.{Answer}
 use Rattle.rights.specs.declared.commands.Ground.{Ground}
 use Rattle.rights.specs.declared.entries.Entry.{Entry}
@@ -10,12 +11,11 @@ use Rattle.rights.specs.Holding.{Holds, StrongPlus, StrongMinus}
 use Rattle.rights.specs.Lists.{In}
 use Rattle.rights.specs.Laws.{SameBelow, StrongStays, MadeApart, DroppedApart}
 use Rattle.rights.specs.Tables.{Table, Tables, made, unmade, Names, Beneath, AtOrBeneath, Stands, Level, level, Levelled}
-use Rattle.rights.proofs.Checks.{none_some}
 use Rattle.rights.proofs.Clash.{denied_grows, denied_clash}
 use Rattle.rights.proofs.Grounds.{answers_says, says_answers}
 use Rattle.rights.proofs.Holding.{strong_plus_grows}
 use Rattle.rights.proofs.Reading.{same_back, beneath_back, strong_plus_same, reads_below}
-use Rattle.rights.proofs.Tables.{beneath_names, beneath_named, beneath_base, beneath_lower}
+use Rattle.rights.proofs.Tables.{beneath_names, beneath_named, beneath_base, beneath_lower, put_other}
 
 pub strong_stays : StrongStays
 strong_stays pairs pairs' tables tables' entries entries' more u p t = (
@@ -28,7 +28,7 @@ strong_stays pairs pairs' tables tables' entries entries' more u p t = (
 
 module _ (tables : Tables) (t : ℕ) (r : Table) where
   made_other : (d : ℕ) → (d ≡ t → ⊥) → tables d ≡ made t r tables d
-  made_other d apart = sym (ap (λ b. cond b (Some r) (tables d)) (ne_eqb d t apart))
+  made_other d apart = sym (put_other tables t (Some r) d apart)
 
   -- what is beneath a table stands
   beneath_stands : Levelled tables → (b d : ℕ) → Beneath tables b d → Stands tables b
@@ -45,7 +45,7 @@ module _ (tables : Tables) (t : ℕ) (r : Table) where
     where
       other : (b : ℕ) → AtOrBeneath tables b d → b ≡ t → ⊥
       other b (inl e) same = apart (sym e ∙ same)
-      other b (inr q) same = let st = beneath_stands levels b d q in none_some st.0 (sym free ∙ (ap tables (sym same) ∙ st.1))
+      other b (inr q) same = let st = beneath_stands levels b d q in none-some st.0 (sym free ∙ (ap tables (sym same) ∙ st.1))
 
   -- the plus or the minus would stand on the new table, where there is no entry
   pub made_clash : (pairs : List Pair) (entries : List Entry) → Levelled tables → tables t ≡ None → ((e : Entry) → In e entries → e.table ≡ t → ⊥) → (s : ℕ) → Clash pairs (made t r tables) entries s → Clash pairs tables entries s
@@ -72,7 +72,7 @@ made_apart pairs tables entries t r levels free bare =
 
 pub dropped_apart : DroppedApart
 dropped_apart pairs tables entries entries' t unnamed rest d apart = reads_below pairs tables (unmade t tables) entries entries' d
-    (record { same_table = λ b q. sym (ap (λ x. cond x None (tables b)) (ne_eqb b t (other b q))); same_entry = λ e q. rest e (other e.table q) })
+    (record { same_table = λ b q. sym (put_other tables t None b (other b q)); same_entry = λ e q. rest e (other e.table q) })
   where
     other : (b : ℕ) → AtOrBeneath tables b d → b ≡ t → ⊥
     other b (inl e) same = apart (sym e ∙ same)

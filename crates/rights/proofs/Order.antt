@@ -1,59 +1,43 @@
 -- Laws of the order of entries: its test decides it, it is strict and total, and same_entry decides equality.
-use Rattle.std.proofs.Common.{◌≡◌, ℕ, ◌<◌, ◌≤◌, Bool, true, leb, ◌⊎◌, List, [], ◌∷◌, Decides, sym, refl, ap, ◌∙◌, inl, inr, ⊎_elim, arith}
-use Rattle.std.specs.List.{list_all, AllByRecursion}
-use Rattle.std.proofs.lemmas.Bool.{cases_order, leb-true, le-leb}
-use Rattle.std.proofs.lemmas.Bool.Decides.{Decides-eqb, Decides-ltb, Decides-and, Decides-or, Decides-like}
-use Rattle.std.proofs.ByRecursion.{Decides-by_and}
+use Rattle.std.proofs.Common.{◌≡◌, ℕ, Bool, true, ◌⊎◌, List, [], ◌∷◌, Decides, inl, inr, ⊎_elim, arith}
+use Rattle.std.specs.List.{AllByRecursion}
+use Rattle.std.proofs.lemmas.Bool.{cases_order}
+use Rattle.std.proofs.lemmas.Bool.Decides.{nat_tests, Decides-and, Decides-like}
 use Rattle.rights.specs.declared.entries.Entry.{Entry}
 use Rattle.rights.specs.Bits.{bit}
 use Rattle.rights.specs.Entries.{Then, Before, Proper, RisingEntries, then_test, before, same_entry, proper, sound}
 use Rattle.rights.proofs.Bits.{bit_injective}
+use Rattle.rights.proofs.Deciding.{decides_all, decided_yes}
 
 pub decides_then : (a b : ℕ) {R : Type 0} (r : Bool) → Decides r R → Decides (then_test a b r) (Then a b R)
-decides_then a b r h = Decides-or _ _ (Decides-ltb a b) (Decides-and _ _ (Decides-eqb a b) h)
+decides_then a b r h = grind (arith, nat_tests)
 
 pub decides_before : (e f : Entry) → Decides (before e f) (Before e f)
 unfolding before Before
-decides_before e f = decides_then _ _ _ (decides_then _ _ _ (decides_then _ _ _ (Decides-ltb _ _)))
+decides_before e f = grind (arith, nat_tests)
+
+pub decides_same : (e f : Entry) → Decides (same_entry e f) (e ≡ f)
+unfolding same_entry
+decides_same e f = grind (arith, nat_tests, bit_injective e.right f.right)
 
 entry_parts : (e f : Entry) → e.subject ≡ f.subject → e.table ≡ f.table → e.grantor ≡ f.grantor → bit e.right ≡ bit f.right → e ≡ f
 entry_parts e f s t x b =
     λ i. record { subject = s i; table = t i; grantor = x i; right = bit_injective e.right f.right b i }
 
-pub decides_same : (e f : Entry) → Decides (same_entry e f) (e ≡ f)
-unfolding same_entry
-decides_same e f =
-    Decides-like _ (λ h. entry_parts e f h.0 h.1.0 h.1.1.0 h.1.1.1)
-    (λ p. (ap (λ x. x.subject) p, (ap (λ x. x.table) p, (ap (λ x. x.grantor) p, ap (λ x. bit x.right) p))))
-    (Decides-and _ _ (Decides-eqb _ _) (Decides-and _ _ (Decides-eqb _ _) (Decides-and _ _ (Decides-eqb _ _) (Decides-eqb _ _))))
-
--- an order with a rest: irreflexive, transitive and total where the rest is
-pub then_irreflexive : (a : ℕ) {R : Type 0} → (R → ⊥) → Then a a R → ⊥
-then_irreflexive a no_rest (inl h) = omega arith
-then_irreflexive a no_rest (inr h) = no_rest h.1
-
+-- an order with a rest is transitive and total where the rest is
 pub then_transitive : (a b c : ℕ) {R S Q : Type 0} → (R → S → Q) → Then a b R → Then b c S → Then a c Q
-then_transitive a b c more (inl h) (inl k) = inl (omega arith)
-then_transitive a b c more (inl h) (inr k) = inl (omega (arith, k.0))
-then_transitive a b c more (inr h) (inl k) = inl (omega (arith, h.0))
-then_transitive a b c more (inr h) (inr k) = inr (h.0 ∙ k.0, more h.1 k.1)
+then_transitive a b c more h k = grind (arith, nat_tests)
 
 pub then_total : (a b : ℕ) {E R S : Type 0} → (E ⊎ (R ⊎ S)) → ((a ≡ b) × E) ⊎ (Then a b R ⊎ Then b a S)
-then_total a b rest =
-    ⊎_elim
-    (λ same. ⊎_elim (λ e. inl (same, e)) (⊎_elim (λ r. inr (inl (inr (same, r)))) (λ s. inr (inr (inr (sym same, s))))) rest)
-    (⊎_elim (λ less. inr (inl (inl less))) (λ more. inr (inr (inl more))))
-    (cases_order a b)
+then_total a b rest = grind (arith, nat_tests)
 
 pub before_irreflexive : (e : Entry) → Before e e → ⊥
 unfolding Before
-before_irreflexive e =
-    then_irreflexive _ (then_irreflexive _ (then_irreflexive _ (λ (h : bit e.right < bit e.right). omega arith)))
+before_irreflexive e h = grind (arith, nat_tests)
 
 pub before_transitive : (e f g : Entry) → Before e f → Before f g → Before e g
 unfolding Before
-before_transitive e f g =
-    then_transitive _ _ _ (then_transitive _ _ _ (then_transitive _ _ _ (λ (h : bit e.right < bit f.right) (k : bit f.right < bit g.right). omega arith)))
+before_transitive e f g h k = grind (arith, nat_tests)
 
 pub before_total : (e f : Entry) → (e ≡ f) ⊎ (Before e f ⊎ Before f e)
 unfolding Before
@@ -63,23 +47,15 @@ before_total e f =
 
 -- ---- the test of a rising list of proper entries
 
-decides_leb : (a b : ℕ) → Decides (leb a b) (a ≤ b)
-decides_leb a b = (leb-true a b, le-leb a b)
-
 decides_proper : (e : Entry) → Decides (proper e) (Proper e)
-decides_proper e =
-    Decides-like _ (λ h. (h.0, h.1.0, h.1.1)) (λ h. (h.0, (h.1, h.2)))
-    (Decides-and _ _ (Decides-and _ _ (decides_leb _ _) (decides_leb _ _)) (Decides-and _ _ (decides_leb _ _) (Decides-and _ _ (decides_leb _ _) (decides_leb _ _))))
-
-decides_all : (p : Entry → Bool) (P : Entry → Type 0) → ((e : Entry) → Decides (p e) (P e)) → (es : List Entry) → Decides (list_all p es) (AllByRecursion P es)
-decides_all p P each es = Decides-by_and p P (list_all p) each refl (λ _ _. refl) es
+decides_proper e = grind (arith, nat_tests)
 
 decides_sound : (es : List Entry) → Decides (sound es) (RisingEntries es × AllByRecursion Proper es)
 unfolding sound
-decides_sound [] = ((λ _. (tt, tt)), (λ _. refl))
+decides_sound [] = decided_yes (tt, tt)
 decides_sound (e ∷ es) =
     Decides-like _ (λ h. ((h.0.1, h.1.0), (h.0.0, h.1.1))) (λ h. ((h.1.0, h.0.0), (h.0.1, h.1.1)))
-    (Decides-and _ _ (Decides-and _ _ (decides_proper e) (decides_all (before e) (Before e) (decides_before e) es)) (decides_sound es))
+    (Decides-and _ _ (Decides-and _ _ (decides_proper e) (decides_all (Before e) (before e) es (λ f _. decides_before e f))) (decides_sound es))
 
 pub sound_rises : (es : List Entry) → sound es ≡ true → RisingEntries es
 sound_rises es h = ((decides_sound es).0 h).0

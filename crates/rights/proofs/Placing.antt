@@ -1,74 +1,72 @@
 -- A list that rises in a strict total order takes one element more in one place, and gives up any element that it has.
-use Rattle.std.proofs.Common.{◌≡◌, Bool, true, false, cond, ◌⊎◌, List, [], ◌∷◌, ◌++◌, Decides, sym, refl, ap, inl, inr, ⊎_elim, true≢false}
-use Rattle.std.specs.List.{AllByRecursion}
+use Rattle.std.proofs.Common.{◌≡◌, ℕ, zero, suc, ◌+◌, Bool, not, ◌⊎◌, List, [], ◌∷◌, ◌++◌, take, drop, Decides, sym, refl, ap, inl, inr, ⊎_elim, arith}
+use Rattle.std.specs.List.{AllByRecursion, position_or_len, insert, remove}
+use Rattle.std.proofs.lemmas.Bool.{cond_both, not-true, not-false}
 use Rattle.std.proofs.lemmas.Bool.Decides.{not_from_Decides}
+use Rattle.std.proofs.lemmas.List.{take-append-drop}
+use Rattle.std.proofs.lemmas.List.Elements.{All-from_recursion, recursion_from_All, All-append, All-cons, All-take, All-drop}
 use Rattle.rights.specs.Lists.{In, Rising, Placed, Parted, none, keep, leave}
-use Rattle.rights.proofs.Parts.{all_in, in_all}
+use Rattle.rights.proofs.Deciding.{all_in, in_all}
 
--- xs with x before the first element that it comes before
-abbrev pub place : {X : Type 0} → (X → X → Bool) → X → List X → List X
-place before x [] = x ∷ []
-place before x (y ∷ ys) = cond (before x y) (x ∷ y ∷ ys) (y ∷ place before x ys)
+module _ {X : Type 0} where
+  -- xs with x before the first element that it comes before
+  abbrev pub place : (X → X → Bool) → X → List X → List X
+  place before x xs = insert xs (position_or_len (before x) xs) x
 
--- xs without the first element that is x
-abbrev pub unplace : {X : Type 0} → (X → X → Bool) → X → List X → List X
-unplace same x [] = []
-unplace same x (y ∷ ys) = cond (same x y) ys (y ∷ unplace same x ys)
+  -- xs without the first element that is x
+  abbrev pub unplace : (X → X → Bool) → X → List X → List X
+  unplace same x xs = remove xs (position_or_len (same x) xs)
 
-module _ {X : Type 0} (Before : X → X → Type 0) (before : X → X → Bool) (decides : (x y : X) → Decides (before x y) (Before x y)) (along : (x y z : X) → Before x y → Before y z → Before x z) (total : (x y : X) → (x ≡ y) ⊎ (Before x y ⊎ Before y x)) where
-  -- where the element goes, and that the list with it rises
-  abbrev Place : X → List X → List X → Type 0
-  Place x xs ys = (front : List X) × (back : List X) × (xs ≡ front ++ back) × (ys ≡ front ++ (x ∷ back)) × Rising Before ys
+  all_insert : (P : X → Type 0) (n : ℕ) (x : X) (xs : List X) → P x → AllByRecursion P xs → AllByRecursion P (insert xs n x)
+  all_insert P n x xs p a =
+      let h = All-from_recursion P xs a in
+      recursion_from_All P _ (All-append P (take n xs) (x ∷ drop n xs) (All-take P n xs h) (All-cons P x (drop n xs) p (All-drop P n xs h)))
 
-  place_all : (P : X → Type 0) (x : X) (xs : List X) → P x → AllByRecursion P xs → AllByRecursion P (place before x xs)
-  place_all P x [] p a = (p, tt)
-  place_all P x (y ∷ ys) p a = by (before x y) (place_all P x ys p a.1)
-    where
-      by : (b : Bool) → AllByRecursion P (place before x ys) → AllByRecursion P (cond b (x ∷ y ∷ ys) (y ∷ place before x ys))
-      by true rest = (p, a)
-      by false rest = (a.0, rest)
+  all_remove : (P : X → Type 0) (n : ℕ) (xs : List X) → AllByRecursion P xs → AllByRecursion P (remove xs n)
+  all_remove P n xs a =
+      let h = All-from_recursion P xs a in
+      recursion_from_All P _ (All-append P (take n xs) (drop (suc n) xs) (All-take P n xs h) (All-drop P (suc n) xs h))
 
-  pub placed_in : (x : X) (xs : List X) → Rising Before xs → (In x xs → ⊥) → Placed Before x xs (place before x xs)
+one : (n : ℕ) → 1 + n ≡ suc n
+one n = omega arith
+
+module _ {X : Type 0} (Before : X → X → Type 0) where
+  pub placed_rises : (x : X) (xs ys : List X) → Placed Before x xs ys → Rising Before ys
   unfolding Placed
-  placed_in x [] r n = ([], [], refl, refl, (tt, tt))
-  placed_in x (y ∷ ys) r n = by (before x y) (decides x y) (placed_in x ys r.1 (λ i. n (inr i)))
-    where
-      after : (Before x y → ⊥) → Before y x
-      after apart = ⊎_elim (λ e. absurd (n (inl e))) (λ o. ⊎_elim (λ b. absurd (apart b)) (λ b. b) o) (total x y)
+  placed_rises x xs ys p = p.4
 
-      by : (b : Bool) → Decides b (Before x y) → Place x ys (place before x ys) → Place x (y ∷ ys) (cond b (x ∷ y ∷ ys) (y ∷ place before x ys))
-      by true d p = ([], y ∷ ys, refl, refl, ((d.0 refl, in_all (Before x) ys (λ z i. along x y z (d.0 refl) (all_in (Before y) ys r.0 z i))), r))
-      by false d p = (y ∷ p.0, p.1, ap (λ l. y ∷ l) p.2, ap (λ l. y ∷ l) p.3, (place_all (Before y) x ys (after (not_from_Decides false d refl)) r.0, p.4))
+  remove_rises : (n : ℕ) (xs : List X) → Rising Before xs → Rising Before (remove xs n)
+  remove_rises zero [] r = tt
+  remove_rises zero (y ∷ ys) r = r.1
+  remove_rises (suc n) [] r = tt
+  remove_rises (suc n) (y ∷ ys) r = (all_remove (Before y) n ys r.0, remove_rises n ys r.1)
 
-  unplace_all : (same : X → X → Bool) (P : X → Type 0) (x : X) (xs : List X) → AllByRecursion P xs → AllByRecursion P (unplace same x xs)
-  unplace_all same P x [] a = tt
-  unplace_all same P x (y ∷ ys) a = by (same x y) (unplace_all same P x ys a.1)
-    where
-      by : (b : Bool) → AllByRecursion P (unplace same x ys) → AllByRecursion P (cond b ys (y ∷ unplace same x ys))
-      by true rest = a.1
-      by false rest = (a.0, rest)
+  pub unplace_rises : (same : X → X → Bool) (x : X) (xs : List X) → Rising Before xs → Rising Before (unplace same x xs)
+  unplace_rises same x xs = remove_rises (position_or_len (same x) xs) xs
 
   pub unplaced_in : (same : X → X → Bool) → ((x y : X) → Decides (same x y) (x ≡ y)) → (x : X) (xs : List X) → Rising Before xs → In x xs → Placed Before x (unplace same x xs) xs
   unfolding Placed
-  unplaced_in same d x [] r i = absurd i
-  unplaced_in same d x (y ∷ ys) r i = by (same x y) (d x y) i (λ j. unplaced_in same d x ys r.1 j)
+  unplaced_in same d x xs r i = (take (position_or_len (same x) xs) xs, drop (suc (position_or_len (same x) xs)) xs, refl, stood xs i, r)
     where
-      by : (b : Bool) → Decides b (x ≡ y) → In x (y ∷ ys) → (In x ys → Place x (unplace same x ys) ys) → Place x (cond b ys (y ∷ unplace same x ys)) (y ∷ ys)
-      by true k j rest = ([], ys, refl, ap (λ z. z ∷ ys) (sym (k.0 refl)), r)
-      by false k (inl e) rest = absurd (true≢false (sym (k.1 e)))
-      by false k (inr j) rest = let p = rest j in (y ∷ p.0, p.1, ap (λ l. y ∷ l) p.2, ap (λ l. y ∷ l) p.3, r)
+      stood : (xs : List X) → In x xs → xs ≡ take (position_or_len (same x) xs) xs ++ (x ∷ drop (suc (position_or_len (same x) xs)) xs)
+      stood [] i = absurd i
+      stood (y ∷ ys) i = cond_both (not (same x y)) (1 + position_or_len (same x) ys) 0 (λ n. y ∷ ys ≡ take n (y ∷ ys) ++ (x ∷ drop (suc n) (y ∷ ys)))
+          (λ t. rw (one (position_or_len (same x) ys)) (ap (λ l. y ∷ l) (stood ys (⊎_elim (λ e. absurd (not_from_Decides (same x y) (d x y) (not-true _ t) e)) (λ j. j) i))))
+          (λ f. ap (λ z. z ∷ ys) (sym ((d x y).0 (not-false _ f))))
 
-  pub unplace_rises : (same : X → X → Bool) (x : X) (xs : List X) → Rising Before xs → Rising Before (unplace same x xs)
-  unplace_rises same x [] r = tt
-  unplace_rises same x (y ∷ ys) r = by (same x y) (unplace_rises same x ys r.1)
-    where
-      by : (b : Bool) → Rising Before (unplace same x ys) → Rising Before (cond b ys (y ∷ unplace same x ys))
-      by true rest = r.1
-      by false rest = (unplace_all same (Before y) x ys r.0, rest)
+  module _ (before : X → X → Bool) (decides : (x y : X) → Decides (before x y) (Before x y)) (along : (x y z : X) → Before x y → Before y z → Before x z) (total : (x y : X) → (x ≡ y) ⊎ (Before x y ⊎ Before y x)) where
+    place_rises : (x : X) (xs : List X) → Rising Before xs → (In x xs → ⊥) → Rising Before (place before x xs)
+    place_rises x [] r n = (tt, tt)
+    place_rises x (y ∷ ys) r n = cond_both (not (before x y)) (1 + position_or_len (before x) ys) 0 (λ k. Rising Before (insert (y ∷ ys) k x))
+        (λ t. rw (one (position_or_len (before x) ys)) (all_insert (Before y) (position_or_len (before x) ys) x ys (after (not_from_Decides (before x y) (decides x y) (not-true _ t))) r.0, place_rises x ys r.1 (λ i. n (inr i))))
+        (λ f. let b = (decides x y).0 (not-false _ f) in ((b, in_all (Before x) ys (λ z i. along x y z b (all_in (Before y) ys r.0 z i))), r))
+      where
+        after : (Before x y → ⊥) → Before y x
+        after apart = ⊎_elim (λ e. absurd (n (inl e))) (λ o. ⊎_elim (λ b. absurd (apart b)) (λ b. b) o) (total x y)
 
-pub placed_rises : {X : Type 0} (Before : X → X → Type 0) (x : X) (xs ys : List X) → Placed Before x xs ys → Rising Before ys
-unfolding Placed
-placed_rises Before x xs ys p = p.4
+    pub placed_in : (x : X) (xs : List X) → Rising Before xs → (In x xs → ⊥) → Placed Before x xs (place before x xs)
+    unfolding Placed
+    placed_in x xs r n = (take (position_or_len (before x) xs) xs, drop (position_or_len (before x) xs) xs, sym (take-append-drop _ xs), refl, place_rises x xs r n)
 
 -- what is kept of a rising list rises
 kept_all : {X : Type 0} (Keeps P : X → Type 0) {xs kept out : List X} → Parted Keeps xs kept out → AllByRecursion P xs → AllByRecursion P kept

@@ -1,11 +1,12 @@
 -- The laws of within, for any list of pairs: reflexive, a step, transitive, growing with the pairs,
 -- a pair more, decidable, loops, and sets that no pair leads out of.
-use Rattle.std.proofs.Common.{◌≡◌, ℕ, ◌⊎◌, List, [], ◌∷◌, refl, ap, subst, inl, inr, ⊎_elim}
-use Rattle.std.proofs.lemmas.Bool.{cases_eq}
+use Rattle.std.proofs.Common.{◌≡◌, ℕ, Bool, ◌&&◌, ◌||◌, eqb, ◌⊎◌, List, [], ◌∷◌, Decides, refl, ap, subst, inl, inr}
+use Rattle.std.proofs.lemmas.Bool.Decides.{Decides-eqb, Decides-and, Decides-or, Decides-like}
 use Rattle.rights.specs.declared.entries.Pair.{Pair}
 use Rattle.rights.specs.Lists.{In, Inside}
 use Rattle.rights.specs.Pairs.{pair}
 use Rattle.rights.specs.Within.{Path, here, step, Within, Below, Loopless}
+use Rattle.rights.proofs.Deciding.{OrNot, either_way}
 
 module _ (ps : List Pair) where
   pub within_refl : (s : ℕ) → Within ps s s
@@ -22,17 +23,7 @@ module _ (ps : List Pair) where
   pub within_one : (m g : ℕ) → In (pair m g) ps → Within ps m g
   within_one m g i = within_step m g g i (within_refl g)
 
-  -- a set that no pair leads out of is not left: what holds at s and passes along every pair
-  -- holds at all that s is within
-  pub within_keeps : (P : ℕ → Type 0) → ((m h : ℕ) → In (pair m h) ps → P m → P h) → (s g : ℕ) → Within ps s g → P s → P g
-  unfolding Within
-  within_keeps P pass s g w at = along w.1 at
-    where
-      along : {s g : ℕ} {l : List ℕ} → Path ps s g l → P s → P g
-      along here p = p
-      along (step {m} {h} i q) p = along q (pass m h i p)
-
-  -- the same against the pairs: what holds at g holds at all that is within g
+  -- against the pairs: what passes from each pair's group to its member holds at all that is within g
   pub within_back : (P : ℕ → Type 0) → ((m h : ℕ) → In (pair m h) ps → P h → P m) → (s g : ℕ) → Within ps s g → P g → P s
   unfolding Within
   within_back P pass s g w at = along w.1 at
@@ -40,6 +31,11 @@ module _ (ps : List Pair) where
       along : {s g : ℕ} {l : List ℕ} → Path ps s g l → P g → P s
       along here p = p
       along (step {m} {h} i q) p = pass m h i (along q p)
+
+  -- a set that no pair leads out of is not left: what holds at s and passes along every pair
+  -- holds at all that s is within
+  pub within_keeps : (P : ℕ → Type 0) → ((m h : ℕ) → In (pair m h) ps → P m → P h) → (s g : ℕ) → Within ps s g → P s → P g
+  within_keeps P pass s g w = within_back (λ x. P x → P g) (λ m h i on at. on (pass m h i at)) s g w (λ at. at)
 
   pub within_trans : (s h g : ℕ) → Within ps s h → Within ps h g → Within ps s g
   within_trans s h g v w = within_back (λ x. Within ps x g) (λ m k i. within_step m k g i) s h v w
@@ -88,19 +84,23 @@ module _ (ps : List Pair) (m g : ℕ) where
       within_trans (pair m g ∷ ps) s m h (within_grows ps (pair m g ∷ ps) (λ _ i. inr i) s m v.0)
       (within_step (pair m g ∷ ps) m g h (inl refl) (within_grows ps (pair m g ∷ ps) (λ _ i. inr i) g h v.1))
 
-abbrev pub OrNot : Type 0 → Type 0
-OrNot P = P ⊎ (P → ⊥)
+-- s is within g: already by the rest of the pairs, or through the first of them.
+abbrev pub within_test : List Pair → ℕ → ℕ → Bool
+within_test [] s g = eqb s g
+within_test (a ∷ ps) s g =
+    let on = within_test ps a.group g in
+    let through = within_test ps s a.member && on in
+    within_test ps s g || through
+
+pub decides_within : (ps : List Pair) (s g : ℕ) → Decides (within_test ps s g) (Within ps s g)
+decides_within [] s g = Decides-like _ (within_same [] s g) (within_none s g) (Decides-eqb s g)
+decides_within (a ∷ ps) s g =
+    Decides-like _ (within_through ps a.member a.group s g) (within_more ps a.member a.group s g)
+    (Decides-or _ _ (decides_within ps s g) (Decides-and _ _ (decides_within ps s a.member) (decides_within ps a.group g)))
 
 -- within is decidable
 pub within_or_not : (ps : List Pair) (s g : ℕ) → OrNot (Within ps s g)
-within_or_not [] s g = ⊎_elim (λ e. inl (within_same [] s g e)) (λ n. inr (λ w. n (within_none s g w))) (cases_eq s g)
-within_or_not (p ∷ ps) s g = by (within_or_not ps s g) (within_or_not ps s p.member) (within_or_not ps p.group g)
-  where
-    by : OrNot (Within ps s g) → OrNot (Within ps s p.member) → OrNot (Within ps p.group g) → OrNot (Within (p ∷ ps) s g)
-    by (inl w) v k = inl (within_through ps p.member p.group s g (inl w))
-    by (inr n) (inl v) (inl w) = inl (within_through ps p.member p.group s g (inr (v, w)))
-    by (inr n) (inl v) (inr k) = inr (λ x. ⊎_elim n (λ y. k y.1) (within_more ps p.member p.group s g x))
-    by (inr n) (inr k) v = inr (λ x. ⊎_elim n (λ y. k y.0) (within_more ps p.member p.group s g x))
+within_or_not ps s g = either_way _ (decides_within ps s g)
 
 pub loopless_none : Loopless []
 unfolding Loopless Below
