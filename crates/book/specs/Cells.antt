@@ -1,8 +1,10 @@
 -- Cells: all entries of one subject, table and grantor, as a map of bits by bit number.
 -- unpacked: the entries of a cell. held: those of a list of cells. KeyBefore: the order of cells.
 -- climbs, numbered: the tests of a list that rises by key, and of its running counts. counted_on: the list with such counts.
+-- turned: a cell with one entry put in or taken out.
 -- CellFinding: where the cell of an entry stands or belongs. Orderly: what a book's cells must be.
 use Rattle.std.specs.Prelude.{◌≡◌, ℕ, ◌+◌, ◌/◌, ◌%◌, ◌^◌, ◌<◌, ◌≤◌, Bool, true, cond, ◌&&◌, List, [], ◌∷◌, length, take, drop, Ok, Err, Result, ◌==◌, nat_lt, slice_index_or}
+use lib.Bits.{bit_xor}
 use Rattle.std.specs.List.{flat_map, list_all, AllByRecursion}
 use Rattle.rights.specs.declared.entries.Entry.{Entry}
 use Rattle.rights.specs.declared.vocabulary.Right.{Right}
@@ -52,6 +54,10 @@ recounted c n = record { subject = c.subject; table = c.table; grantor = c.grant
 unfoldable pub counted_on : ℕ → List Cell → List Cell
 counted_on n [] = []
 counted_on n (c ∷ cs) = recounted c n ∷ counted_on (n + length (unpacked c)) cs
+
+-- the cell with the bit of a right turned
+abbrev pub turned : Cell → Right → Cell
+turned c r = record { subject = c.subject; table = c.table; grantor = c.grantor; rights = bit_xor c.rights (2 ^ bit r); earlier = c.earlier }
 
 -- an empty cell with the key of an entry
 abbrev pub key_cell : Entry → Cell

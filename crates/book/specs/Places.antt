@@ -1,5 +1,5 @@
 -- Where an element stands or belongs in a list.
--- Parts: the place that parts what lies below from the rest. Falling: below such a place all lies below.
+-- Parts: the place that parts what lies below from the rest.
 -- Stands: an entry stands at a place. Fitting: it may be put there. Finding: where it stands, or its place.
 use Rattle.std.specs.Prelude.{◌≡◌, ℕ, ◌<◌, ◌≤◌, List, length, Ok, Err, Result, slice_index_or}
 use Rattle.rights.specs.declared.entries.Entry.{Entry}
@@ -11,10 +11,6 @@ pub record Parts {X : Type 0} (Low : X → Type 0) (xs : List X) (k : ℕ) : Typ
   pub within : k ≤ length xs
   pub below : (i : ℕ) (d : X) → i < k → Low (slice_index_or xs i d)
   pub above : (i : ℕ) (d : X) → k ≤ i → i < length xs → Low (slice_index_or xs i d) → ⊥
-
--- what stands before an element that lies below lies below too
-abbrev pub Falling : {X : Type 0} → (X → Type 0) → List X → Type 0
-Falling {X} Low xs = (i j : ℕ) (d : X) → i < j → j < length xs → Low (slice_index_or xs j d) → Low (slice_index_or xs i d)
 
 abbrev pub Stands : Entry → List Entry → ℕ → Type 0
 Stands e es k = (k < length es) × (slice_index_or es k e ≡ e)

@@ -104,7 +104,7 @@ by_three a b c x y z hb hc hy hz =
     rw (by_parts 2 b c y z hc' hz') (by_parts 4 a (2 * b + c) x (2 * y + z) h k)
 
 -- rights are in the order of their bit numbers
-right_order : (r q : Right) → (right_ord.ghosts).cmp r q ≡ nat_cmp (bit r) (bit q)
+pub right_order : (r q : Right) → (right_ord.ghosts).cmp r q ≡ nat_cmp (bit r) (bit q)
 right_order (Right.Access p s t) (Right.Access p' s' t') =
     rw (privilege_order p p', sign_order s s', strength_order t t') (by_three _ _ _ _ _ _ (sign_few s) (strength_few t) (sign_few s') (strength_few t'))
 right_order (Right.Access p s t) (Right.Admin p' k r) =
@@ -129,11 +129,11 @@ pair_order p q =
     (λ e (h : q.member < p.member). rw e (omega arith, λ same. omega (arith, same)))
 
 -- what the answer of a comparison says
-record Says (o : Ordering) (Less Same More : Type 0) : Type 0 where
-  that : MatchOrdering o Less Same More
+pub record Says (o : Ordering) (Less Same More : Type 0) : Type 0 where
+  pub that : MatchOrdering o Less Same More
 
 -- the first parts decide, and where they are equal the rest
-then_order : (a b : ℕ) {o : Ordering} {Less Same More : Type 0} → Says o Less Same More →
+pub then_order : (a b : ℕ) {o : Ordering} {Less Same More : Type 0} → Says o Less Same More →
     Says (ordering_then (nat_cmp a b) o) (Then a b Less) ((a ≡ b) × Same) (Then b a More)
 then_order a b {o} {Less} {Same} {More} h = record {
   that =
@@ -148,7 +148,7 @@ then_order a b {o} {Less} {Same} {More} h = record {
     split Ordering.Equal h k = (k, h)
     split Ordering.Greater h k = inr (sym k, h)
 
-same_where : {o : Ordering} {Less Same More : Type 0} → Says o Less Same More → (Same' : Type 0) → (Same → Same') → MatchOrdering o Less Same' More
+pub same_where : {o : Ordering} {Less Same More : Type 0} → Says o Less Same More → (Same' : Type 0) → (Same → Same') → MatchOrdering o Less Same' More
 same_where {o} {Less} {Same} {More} h Same' f = cases o h.that
   where
     cases : (o : Ordering) → MatchOrdering o Less Same More → MatchOrdering o Less Same' More
@@ -156,7 +156,7 @@ same_where {o} {Less} {Same} {More} h Same' f = cases o h.that
     cases Ordering.Equal k = f k
     cases Ordering.Greater k = k
 
-bits : (a b : ℕ) → Says (nat_cmp a b) (a < b) (a ≡ b) (b < a)
+pub bits : (a b : ℕ) → Says (nat_cmp a b) (a < b) (a ≡ b) (b < a)
 bits a b = record { that = ranked a b _ refl }
 
 pub entry_order : (e f : Entry) → MatchOrdering ((entry_ord.ghosts).cmp e f) (Before e f) (e ≡ f) (Before f e)

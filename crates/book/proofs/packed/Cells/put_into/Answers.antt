@@ -1,57 +1,64 @@
-use Rattle.std.proofs.Common.{◌≡◌, ◌<◌, length, sym, refl, ap, ◌∙◌, inl, inr, arith}
-use Rattle.std.proofs.lemmas.Bool.{false≢true}
-use Rattle.rights.specs.Checks.{First}
-use Rattle.book.specs.Cells.{has}
-use Rattle.book.specs.Packing.{packed}
-use Rattle.rights.proofs.Bits.{bit_below}
-use Rattle.book.specs.declared.packed.Cells.{Cells}
-use Rattle.book.proofs.Packs.{inside, set_tells, put_written, put_writes}
+use Rattle.std.proofs.Common.{◌≡◌, ◌<◌, true, false, length, get_or, sym, refl, ap, ◌∙◌}
+use Rattle.rights.specs.Bits.{bit}
+use Rattle.book.specs.Cells.{has, turned}
+use Rattle.book.specs.Packing.{cells, packed}
+use Rattle.book.proofs.Counts.{no_cell}
+use Rattle.book.proofs.Packs.{below, set_tells, unset_tells, put_changed}
+use Rattle.book.proofs.Refused.{put_taken, put_full, put_done}
 use Rattle.book.proofs.packed.Cells.put_into.Goals as goal
 
--- the count is not the ceiling
-below : (b : Cells) → (b.count ≡ b.ceiling → ⊥) → length (packed b) < b.ceiling
-below b other = omega (arith, b.total, b.counted)
-
-pub is_set-requires : goal.is_set-requires
-is_set-requires c = let h = bit_below c.args.e.right in omega (arith, c.bit_number-k.ensures)
-
-pub returns-then-is_set : goal.returns-then-is_set
-unfolding First
-returns-then-is_set c =
-    let set' = sym (c.if-is_set.ensures ∙ ap (has _) c.bit_number-k.ensures) in
-    record {
-      refuses = inr ((λ bad. bad c.requires.proper), inl ((set_tells c.args.self.now c.args.e c.args.i c.requires.cell).0 set', refl));
-      after = refl;
-      ceiling = refl;
-      rest = refl;
-    }
-
-pub returns-then-self : goal.returns-then-self
-unfolding First
-returns-then-self c =
+pub returns-then-holds-clause-refuses : goal.returns-then-holds-clause-refuses
+returns-then-holds-clause-refuses c =
     let b = c.args.self.now in
-    let unset = sym (c.if-is_set.ensures ∙ ap (has _) c.bit_number-k.ensures) in
-    record {
-      refuses = inr ((λ bad. bad c.requires.proper), inr ((λ h. false≢true (sym unset ∙ (set_tells b c.args.e c.args.i c.requires.cell).1 h)), inl (sym b.total ∙ c.if-self.true, refl)));
-      after = refl;
-      ceiling = refl;
-      rest = refl;
-    }
+    let set' : has (get_or (cells b) c.args.i no_cell).rights (bit c.args.e.right) ≡ true = sym (ap (λ l. has (get_or l c.args.i no_cell).rights (bit c.args.e.right)) c.as_slice.ensures) ∙ sym c.if-holds.ensures in
+    put_taken _ _ _ c.requires.proper ((set_tells b c.args.e c.args.i c.requires.cell).0 set')
 
-pub write-requires : goal.write-requires
-write-requires c =
+pub returns-then-held_count-self-clause-refuses : goal.returns-then-held_count-self-clause-refuses
+returns-then-held_count-self-clause-refuses c =
     let b = c.args.self.now in
-    let unset = sym (c.if-is_set.ensures ∙ ap (has _) c.bit_number-k.ensures) in
-    record { place = inside b c.args.e c.args.i c.requires.cell; orderly = put_writes b c.args.e c.args.i c.requires.cell c.bit_number-k.result c.bit_number-k.ensures unset c.requires.proper (below b c.if-self.false) }
+    let same = c.as_slice.ensures in
+    let unset : has (get_or (cells b) c.args.i no_cell).rights (bit c.args.e.right) ≡ false = sym (ap (λ l. has (get_or l c.args.i no_cell).rights (bit c.args.e.right)) same) ∙ sym c.if-holds.ensures in
+    put_full _ _ _ c.requires.proper (unset_tells b c.args.e c.args.i c.requires.cell unset) (sym c.held_count.ensures ∙ c.if-held_count-self.true)
 
-pub returns : goal.returns
-unfolding First
-returns c =
+pub recount-requires-clause-counted : goal.recount-requires-clause-counted
+recount-requires-clause-counted c =
     let b = c.args.self.now in
-    let unset = sym (c.if-is_set.ensures ∙ ap (has _) c.bit_number-k.ensures) in
-    record {
-      refuses = inr ((λ bad. bad c.requires.proper), inr ((λ h. false≢true (sym unset ∙ (set_tells b c.args.e c.args.i c.requires.cell).1 h)), inr ((λ full. c.if-self.false (b.total ∙ full)), refl)));
-      after = c.write.ensures.entries ∙ put_written b c.args.e c.args.i c.requires.cell c.bit_number-k.result c.bit_number-k.ensures unset c.requires.proper (below b c.if-self.false);
-      ceiling = c.write.ensures.ceiling;
-      rest = c.write.ensures.rest;
-    }
+    let same = c.as_slice.ensures in
+    let unset : has (get_or (cells b) c.args.i no_cell).rights (bit c.args.e.right) ≡ false = sym (ap (λ l. has (get_or l c.args.i no_cell).rights (bit c.args.e.right)) same) ∙ sym c.if-holds.ensures in
+    let room : length (packed b) < b.ceiling = below b (λ full. c.if-held_count-self.false (c.held_count.ensures ∙ full)) in
+    let put = put_changed b c.args.e c.args.i c.requires.cell unset c.requires.proper room c.turned.result c.replace.result c.replace.new.self (c.turned.ensures ∙ ap (λ l. turned (get_or l c.args.i no_cell) c.args.e.right) same) c.replace.ensures.gives c.replace.ensures.some in
+    put.counted
+
+pub recount-requires-clause-few : goal.recount-requires-clause-few
+recount-requires-clause-few c =
+    let b = c.args.self.now in
+    let same = c.as_slice.ensures in
+    let unset : has (get_or (cells b) c.args.i no_cell).rights (bit c.args.e.right) ≡ false = sym (ap (λ l. has (get_or l c.args.i no_cell).rights (bit c.args.e.right)) same) ∙ sym c.if-holds.ensures in
+    let room : length (packed b) < b.ceiling = below b (λ full. c.if-held_count-self.false (c.held_count.ensures ∙ full)) in
+    let put = put_changed b c.args.e c.args.i c.requires.cell unset c.requires.proper room c.turned.result c.replace.result c.replace.new.self (c.turned.ensures ∙ ap (λ l. turned (get_or l c.args.i no_cell) c.args.e.right) same) c.replace.ensures.gives c.replace.ensures.some in
+    put.few
+
+pub invariant_of-self : goal.invariant_of-self
+invariant_of-self c =
+    let b = c.args.self.now in
+    let same = c.as_slice.ensures in
+    let unset : has (get_or (cells b) c.args.i no_cell).rights (bit c.args.e.right) ≡ false = sym (ap (λ l. has (get_or l c.args.i no_cell).rights (bit c.args.e.right)) same) ∙ sym c.if-holds.ensures in
+    let room : length (packed b) < b.ceiling = below b (λ full. c.if-held_count-self.false (c.held_count.ensures ∙ full)) in
+    let put = put_changed b c.args.e c.args.i c.requires.cell unset c.requires.proper room c.turned.result c.replace.result c.replace.new.self (c.turned.ensures ∙ ap (λ l. turned (get_or l c.args.i no_cell) c.args.e.right) same) c.replace.ensures.gives c.replace.ensures.some in
+    put.keeps c.recount.new.front c.recount.ensures
+
+pub returns-clause-refuses : goal.returns-clause-refuses
+returns-clause-refuses c =
+    let b = c.args.self.now in
+    let same = c.as_slice.ensures in
+    let unset : has (get_or (cells b) c.args.i no_cell).rights (bit c.args.e.right) ≡ false = sym (ap (λ l. has (get_or l c.args.i no_cell).rights (bit c.args.e.right)) same) ∙ sym c.if-holds.ensures in
+    put_done _ _ _ c.requires.proper (unset_tells b c.args.e c.args.i c.requires.cell unset) (λ full. c.if-held_count-self.false (c.held_count.ensures ∙ full))
+
+pub returns-clause-put : goal.returns-clause-put
+returns-clause-put c =
+    let b = c.args.self.now in
+    let same = c.as_slice.ensures in
+    let unset : has (get_or (cells b) c.args.i no_cell).rights (bit c.args.e.right) ≡ false = sym (ap (λ l. has (get_or l c.args.i no_cell).rights (bit c.args.e.right)) same) ∙ sym c.if-holds.ensures in
+    let room : length (packed b) < b.ceiling = below b (λ full. c.if-held_count-self.false (c.held_count.ensures ∙ full)) in
+    let put = put_changed b c.args.e c.args.i c.requires.cell unset c.requires.proper room c.turned.result c.replace.result c.replace.new.self (c.turned.ensures ∙ ap (λ l. turned (get_or l c.args.i no_cell) c.args.e.right) same) c.replace.ensures.gives c.replace.ensures.some in
+    record { stand = put.stands c.recount.new.front c.recount.ensures; ceiling = refl; rest = put.rest c.recount.new.front c.recount.ensures }

@@ -1,42 +1,62 @@
-use Rattle.std.proofs.Common.{◌≡◌, ◌<◌, length, sym, refl, ◌∙◌, inl, inr, arith}
-use Rattle.std.proofs.lemmas.List.{length-take-le}
-use Rattle.rights.specs.Checks.{First}
+use Rattle.std.proofs.Common.{◌<◌, is_ok, length, sym, refl, ap, ◌∙◌}
+use Rattle.std.proofs.lemmas.Bool.{false≢true}
+use Rattle.book.specs.Cells.{turned}
 use Rattle.book.specs.Packing.{packed}
-use Rattle.book.specs.declared.packed.Cells.{Cells}
-use Rattle.book.proofs.Packs.{absent, put_inserted, put_inserts, cell_room}
+use Rattle.book.proofs.Packs.{below, absent, cell_fits, put_grown}
+use Rattle.book.proofs.Refused.{put_full, put_done}
 use Rattle.book.proofs.packed.Cells.put_new.Goals as goal
 
--- the count is not the ceiling
-below : (b : Cells) → (b.count ≡ b.ceiling → ⊥) → length (packed b) < b.ceiling
-below b other = omega (arith, b.total, b.counted)
+pub returns-then-held_count-self-clause-refuses : goal.returns-then-held_count-self-clause-refuses
+returns-then-held_count-self-clause-refuses c =
+    put_full _ _ _ c.requires.proper (absent c.args.self.now c.args.e c.args.i c.requires.cell) (sym c.held_count.ensures ∙ c.if-held_count-self.true)
 
-pub returns-then-self : goal.returns-then-self
-unfolding First
-returns-then-self c =
+-- the front has room
+pub returns-in_err-map_err-clause-refuses : goal.returns-in_err-map_err-clause-refuses
+returns-in_err-map_err-clause-refuses c =
     let b = c.args.self.now in
-    record {
-      refuses = inr ((λ bad. bad c.requires.proper), inr (absent b c.args.e c.args.i c.requires.cell, inl (sym b.total ∙ c.if-self.true, refl)));
-      after = refl;
-      ceiling = refl;
-      rest = refl;
-    }
+    let room : length (packed b) < b.ceiling = below b (λ full. c.if-held_count-self.false (c.held_count.ensures ∙ full)) in
+    let done = c.insert.ensures.done.1 (cell_fits b c.args.e c.args.i c.requires.cell c.requires.proper room) in
+    absurd (false≢true (sym (ap is_ok c.in_err-map_err.was) ∙ c.map_err.ensures.variant ∙ done))
 
-pub insert-requires : goal.insert-requires
-insert-requires c =
+pub returns-in_err-map_err-clause-unchanged : goal.returns-in_err-map_err-clause-unchanged
+returns-in_err-map_err-clause-unchanged c =
     let b = c.args.self.now in
-    record {
-      place = omega (arith, c.requires.cell.0, length-take-le b.store.used b.store.list.now b.inside);
-      room = cell_room b (omega (arith, b.counted, c.if-self.false));
-      orderly = put_inserts b c.args.e c.args.i c.requires.cell c.bit_number-k.result c.bit_number-k.ensures c.requires.proper (below b c.if-self.false);
-    }
+    let room : length (packed b) < b.ceiling = below b (λ full. c.if-held_count-self.false (c.held_count.ensures ∙ full)) in
+    let done = c.insert.ensures.done.1 (cell_fits b c.args.e c.args.i c.requires.cell c.requires.proper room) in
+    absurd (false≢true (sym (ap is_ok c.in_err-map_err.was) ∙ c.map_err.ensures.variant ∙ done))
 
-pub returns : goal.returns
-unfolding First
-returns c =
+pub recount-requires-clause-counted : goal.recount-requires-clause-counted
+recount-requires-clause-counted c =
     let b = c.args.self.now in
-    record {
-      refuses = inr ((λ bad. bad c.requires.proper), inr (absent b c.args.e c.args.i c.requires.cell, inr ((λ full. c.if-self.false (b.total ∙ full)), refl)));
-      after = c.insert.ensures.entries ∙ put_inserted b c.args.e c.args.i c.requires.cell c.bit_number-k.result c.bit_number-k.ensures c.requires.proper (below b c.if-self.false);
-      ceiling = c.insert.ensures.ceiling;
-      rest = c.insert.ensures.rest;
-    }
+    let room : length (packed b) < b.ceiling = below b (λ full. c.if-held_count-self.false (c.held_count.ensures ∙ full)) in
+    let done = c.insert.ensures.done.1 (cell_fits b c.args.e c.args.i c.requires.cell c.requires.proper room) in
+    let put = put_grown b c.args.e c.args.i c.requires.cell c.requires.proper room c.turned.result c.insert.result c.insert.new.self (c.turned.ensures ∙ ap (λ x. turned x c.args.e.right) c.empty.ensures) done c.insert.ensures.ok in
+    put.counted
+
+pub recount-requires-clause-few : goal.recount-requires-clause-few
+recount-requires-clause-few c =
+    let b = c.args.self.now in
+    let room : length (packed b) < b.ceiling = below b (λ full. c.if-held_count-self.false (c.held_count.ensures ∙ full)) in
+    let done = c.insert.ensures.done.1 (cell_fits b c.args.e c.args.i c.requires.cell c.requires.proper room) in
+    let put = put_grown b c.args.e c.args.i c.requires.cell c.requires.proper room c.turned.result c.insert.result c.insert.new.self (c.turned.ensures ∙ ap (λ x. turned x c.args.e.right) c.empty.ensures) done c.insert.ensures.ok in
+    put.few
+
+pub invariant_of-self-2 : goal.invariant_of-self-2
+invariant_of-self-2 c =
+    let b = c.args.self.now in
+    let room : length (packed b) < b.ceiling = below b (λ full. c.if-held_count-self.false (c.held_count.ensures ∙ full)) in
+    let done = c.insert.ensures.done.1 (cell_fits b c.args.e c.args.i c.requires.cell c.requires.proper room) in
+    let put = put_grown b c.args.e c.args.i c.requires.cell c.requires.proper room c.turned.result c.insert.result c.insert.new.self (c.turned.ensures ∙ ap (λ x. turned x c.args.e.right) c.empty.ensures) done c.insert.ensures.ok in
+    put.keeps c.recount.new.front c.recount.ensures
+
+pub returns-clause-refuses : goal.returns-clause-refuses
+returns-clause-refuses c =
+    put_done _ _ _ c.requires.proper (absent c.args.self.now c.args.e c.args.i c.requires.cell) (λ full. c.if-held_count-self.false (c.held_count.ensures ∙ full))
+
+pub returns-clause-put : goal.returns-clause-put
+returns-clause-put c =
+    let b = c.args.self.now in
+    let room : length (packed b) < b.ceiling = below b (λ full. c.if-held_count-self.false (c.held_count.ensures ∙ full)) in
+    let done = c.insert.ensures.done.1 (cell_fits b c.args.e c.args.i c.requires.cell c.requires.proper room) in
+    let put = put_grown b c.args.e c.args.i c.requires.cell c.requires.proper room c.turned.result c.insert.result c.insert.new.self (c.turned.ensures ∙ ap (λ x. turned x c.args.e.right) c.empty.ensures) done c.insert.ensures.ok in
+    record { stand = put.stands c.recount.new.front c.recount.ensures; ceiling = refl; rest = put.rest c.recount.new.front c.recount.ensures }

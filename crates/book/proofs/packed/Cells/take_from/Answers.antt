@@ -1,57 +1,51 @@
-use Rattle.std.proofs.Common.{sym, refl, ap, ◌∙◌, inl, inr, arith}
-use Rattle.std.proofs.lemmas.Bool.{false≢true}
-use Rattle.rights.specs.Checks.{First}
-use Rattle.book.specs.Cells.{has}
-use Rattle.rights.proofs.Bits.{bit_below}
-use Rattle.book.proofs.Packs.{inside, set_tells, take_written, take_writes, take_removed, take_removes}
+use Rattle.std.proofs.Common.{◌≡◌, true, false, length, get_or, sym, refl, ap, ◌∙◌}
+use Rattle.rights.specs.Bits.{bit}
+use Rattle.book.specs.Cells.{has, turned}
+use Rattle.book.specs.Packing.{cells, packed}
+use Rattle.book.proofs.Counts.{no_cell}
+use Rattle.std.proofs.Common.{subst}
+use Rattle.book.specs.Cells.{unpacked}
+use Rattle.book.specs.Effects.{without_entry}
+use Rattle.book.proofs.Packs.{Changed, set_tells, unset_tells, take_changed, take_shrunk}
+use Rattle.book.proofs.Refused.{take_absent, take_done}
 use Rattle.book.proofs.packed.Cells.take_from.Goals as goal
+use Rattle.book.proofs.packed.Cells.take_from.Goals.{then-size-eq1, else-size-eq1}
 
-pub is_set-requires : goal.is_set-requires
-is_set-requires c = let h = bit_below c.args.e.right in omega (arith, c.bit_number-k.ensures)
-
-pub returns-then-not-is_set : goal.returns-then-not-is_set
-unfolding First
-returns-then-not-is_set c =
-    let unset = sym (c.if-not-is_set.ensures ∙ ap (has _) c.bit_number-k.ensures) in
-    record {
-      refuses = inr ((λ bad. bad c.requires.proper), inl ((λ h. false≢true (sym unset ∙ (set_tells c.args.self.now c.args.e c.args.i c.requires.cell).1 h)), refl));
-      after = refl;
-      ceiling = refl;
-      rest = refl;
-    }
-
-pub remove-requires : goal.remove-requires
-remove-requires c =
+pub returns-then-not-holds-clause-refuses : goal.returns-then-not-holds-clause-refuses
+returns-then-not-holds-clause-refuses c =
     let b = c.args.self.now in
-    let set' = sym (c.if-not-is_set.ensures ∙ ap (has _) c.bit_number-k.ensures) in
-    record { place = inside b c.args.e c.args.i c.requires.cell; orderly = take_removes b c.args.e c.args.i c.requires.cell c.bit_number-k.result c.bit_number-k.ensures set' (sym c.size.ensures ∙ c.if-size-eq1.true) }
+    let unset : has (get_or (cells b) c.args.i no_cell).rights (bit c.args.e.right) ≡ false = sym (ap (λ l. has (get_or l c.args.i no_cell).rights (bit c.args.e.right)) c.as_slice.ensures) ∙ sym c.if-not-holds.ensures in
+    take_absent _ 0 _ c.requires.proper (unset_tells b c.args.e c.args.i c.requires.cell unset)
 
-pub returns-then-size-eq1 : goal.returns-then-size-eq1
-unfolding First
-returns-then-size-eq1 c =
+-- a cell of one entry went, or its bit was turned
+taken : (c : goal.After-recount-arg-1) → Changed c.args.self.now (without_entry c.args.e (packed c.args.self.now)) c.args.i c.if-size-eq1.self.1.0
+taken c =
     let b = c.args.self.now in
-    let set' = sym (c.if-not-is_set.ensures ∙ ap (has _) c.bit_number-k.ensures) in
-    record {
-      refuses = inr ((λ bad. bad c.requires.proper), inr ((λ none. none ((set_tells b c.args.e c.args.i c.requires.cell).0 set')), refl));
-      after = c.remove.ensures.entries ∙ take_removed b c.args.e c.args.i c.requires.cell c.bit_number-k.result c.bit_number-k.ensures set' (sym c.size.ensures ∙ c.if-size-eq1.true);
-      ceiling = c.remove.ensures.ceiling;
-      rest = c.remove.ensures.rest;
-    }
+    let same = c.as_slice.ensures in
+    let set' : has (get_or (cells b) c.args.i no_cell).rights (bit c.args.e.right) ≡ true = sym (ap (λ l. has (get_or l c.args.i no_cell).rights (bit c.args.e.right)) same) ∙ sym c.if-not-holds.ensures in
+    let size = c.size.ensures ∙ ap (λ l. length (unpacked (get_or l c.args.i no_cell))) same in
+    elim c.if-size-eq1.branch [
+      | then-size-eq1 w ↦ subst (Changed b _ c.args.i) (sym (ap (λ t. t.1.0) w.self-is))
+          (take_shrunk b c.args.e c.args.i c.requires.cell set' (sym size ∙ w.if-size-eq1.true) w.remove.result w.remove.new.self w.remove.ensures.gives w.remove.ensures.some)
+      | else-size-eq1 w ↦ subst (Changed b _ c.args.i) (sym (ap (λ t. t.1.0) w.self-is))
+          (take_changed b c.args.e c.args.i c.requires.cell set' (λ one. w.if-size-eq1.false (size ∙ one)) w.turned.result w.replace.result w.replace.new.self (w.turned.ensures ∙ ap (λ l. turned (get_or l c.args.i no_cell) c.args.e.right) same) w.replace.ensures.gives w.replace.ensures.some)
+    ]
 
-pub write-requires : goal.write-requires
-write-requires c =
-    let b = c.args.self.now in
-    let set' = sym (c.if-not-is_set.ensures ∙ ap (has _) c.bit_number-k.ensures) in
-    record { place = inside b c.args.e c.args.i c.requires.cell; orderly = take_writes b c.args.e c.args.i c.requires.cell c.bit_number-k.result c.bit_number-k.ensures set' (λ one. c.if-size-eq1.false (c.size.ensures ∙ one)) }
+pub recount-requires-clause-counted : goal.recount-requires-clause-counted
+recount-requires-clause-counted c = (taken c).counted
 
-pub returns : goal.returns
-unfolding First
-returns c =
+pub recount-requires-clause-few : goal.recount-requires-clause-few
+recount-requires-clause-few c = (taken c).few
+
+pub invariant_of-self : goal.invariant_of-self
+invariant_of-self c = (taken c.before).keeps c.recount.new.front c.recount.ensures
+
+pub returns-clause-refuses : goal.returns-clause-refuses
+returns-clause-refuses c =
     let b = c.args.self.now in
-    let set' = sym (c.if-not-is_set.ensures ∙ ap (has _) c.bit_number-k.ensures) in
-    record {
-      refuses = inr ((λ bad. bad c.requires.proper), inr ((λ none. none ((set_tells b c.args.e c.args.i c.requires.cell).0 set')), refl));
-      after = c.write.ensures.entries ∙ take_written b c.args.e c.args.i c.requires.cell c.bit_number-k.result c.bit_number-k.ensures set';
-      ceiling = c.write.ensures.ceiling;
-      rest = c.write.ensures.rest;
-    }
+    let same = c.as_slice.ensures in
+    let set' : has (get_or (cells b) c.args.i no_cell).rights (bit c.args.e.right) ≡ true = sym (ap (λ l. has (get_or l c.args.i no_cell).rights (bit c.args.e.right)) same) ∙ sym c.if-not-holds.ensures in
+    take_done _ 0 _ c.requires.proper ((set_tells b c.args.e c.args.i c.requires.cell).0 set')
+
+pub returns-clause-taken : goal.returns-clause-taken
+returns-clause-taken c = record { stand = (taken c.before.before).stands c.recount.new.front c.recount.ensures; ceiling = refl; rest = (taken c.before.before).rest c.recount.new.front c.recount.ensures }
