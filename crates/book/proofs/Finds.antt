@@ -1,5 +1,5 @@
 -- What a place in a rising list of entries tells: whether e stands there, and what with_entry and without_entry are.
-use Rattle.std.proofs.Common.{◌≡◌, ℕ, zero, suc, ◌<◌, Bool, true, false, List, [], ◌∷◌, length, get_or, take, drop, Ok, Err, Result, MatchResult, IsTrue, is_ok, ◌↔◌, sym, refl, ap, subst, inl, inr, ⊎_elim, arith}
+use Rattle.std.proofs.Common.{◌≡◌, ℕ, zero, suc, ◌<◌, Bool, true, false, List, [], ◌∷◌, length, get_or, take, drop, Option, Ok, Err, Result, MatchResult, IsTrue, is_ok, ◌↔◌, sym, refl, ap, subst, inl, inr, ⊎_elim, arith}
 use Rattle.std.specs.List.{insert, remove, AllByRecursion}
 use Rattle.std.specs.List.Sorted.{IsBinarySearchResult, IsSearchInRange}
 use Rattle.std.proofs.ByRecursion.{All-append, All-take, All-drop}
@@ -45,14 +45,6 @@ test_false e f h = go (before e f) refl
     go : (b : Bool) → before e f ≡ b → before e f ≡ false
     go true test = absurd (h ((decides_before e f).0 test))
     go false test = test
-
--- an entry that stands in a rising list stands where it parts the list
-pub parts_stands : (e : Entry) (es : List Entry) (k : ℕ) → RisingEntries es → Parts (λ f. Before f e) es k → In e es → (k < length es) × (get_or es k e ≡ e)
-parts_stands e [] k up p i = absurd i
-parts_stands e (f ∷ fs) zero up p (inl h) = (omega arith, sym h)
-parts_stands e (f ∷ fs) zero up p (inr i) = absurd (p.above 0 e (omega arith) (omega arith) (all_in (Before f) e fs up.0 i))
-parts_stands e (f ∷ fs) (suc k) up p (inl h) = absurd (before_irreflexive e (subst (λ x. Before x e) (sym h) (p.below 0 e (omega arith))))
-parts_stands e (f ∷ fs) (suc k) up p (inr i) = let h = parts_stands e fs k up.1 (tail_parts p) i in (omega arith, h.1)
 
 pub parts_with : (e : Entry) (es : List Entry) (k : ℕ) → Parts (λ f. Before f e) es k → (In e es → ⊥) → with_entry e es ≡ insert es k e
 unfolding with_entry
@@ -101,19 +93,20 @@ pub found_stands : (e : Entry) (es : List Entry) (r : Result ℕ ℕ) → Findin
 found_stands e es (Ok k) h = ((λ _. stands_in e es k h.0 h.1), (λ _. refl))
 found_stands e es (Err k) h = ((λ no_test. absurd (false≢true no_test)), (λ i. absurd (h.0 i)))
 
--- what was found, where only a new place passes, and where only a place that is held passes
-pub found_new : (e : Entry) (es : List Entry) (r : Result ℕ ℕ) (k : ℕ) → Finding e es r → ok_or (result_err r) BookFault.Taken ≡ Ok k → Finding e es (Err k)
-found_new e es (Ok j) k h is = absurd (cc)
-found_new e es (Err j) k h is = let same : j ≡ k = cc in subst (λ i. Finding e es (Err i)) same h
+-- what was found, where a put passes on the place of what is new, and a taking that of what stands
+module _ (e : Entry) (es : List Entry) where
+  pub found_new : (r : Result ℕ ℕ) {o : Option ℕ} {m : Result ℕ BookFault} (k : ℕ) → Finding e es r → o ≡ result_err r → m ≡ ok_or o BookFault.Taken → m ≡ Ok k → Finding e es (Err k)
+  found_new (Ok j) k h was gave is = absurd (cc)
+  found_new (Err j) k h was gave is = let same : j ≡ k = cc in subst (λ i. Finding e es (Err i)) same h
 
-pub found_taken : (e : Entry) (es : List Entry) (r : Result ℕ ℕ) (f : BookFault) → Finding e es r → ok_or (result_err r) BookFault.Taken ≡ Err f → In e es × (f ≡ BookFault.Taken)
-found_taken e es (Ok j) f h is = (stands_in e es j h.0 h.1, cc)
-found_taken e es (Err j) f h is = absurd (cc)
+  pub found_taken : (r : Result ℕ ℕ) {o : Option ℕ} {m : Result ℕ BookFault} (f : BookFault) → Finding e es r → o ≡ result_err r → m ≡ ok_or o BookFault.Taken → m ≡ Err f → In e es × (f ≡ BookFault.Taken)
+  found_taken (Ok j) f h was gave is = (stands_in e es j h.0 h.1, cc)
+  found_taken (Err j) f h was gave is = absurd (cc)
 
-pub found_old : (e : Entry) (es : List Entry) (r : Result ℕ ℕ) (k : ℕ) → Finding e es r → ok_or (result_ok r) BookFault.Absent ≡ Ok k → Finding e es (Ok k)
-found_old e es (Ok j) k h is = let same : j ≡ k = cc in subst (λ i. Finding e es (Ok i)) same h
-found_old e es (Err j) k h is = absurd (cc)
+  pub found_old : (r : Result ℕ ℕ) {o : Option ℕ} {m : Result ℕ BookFault} (k : ℕ) → Finding e es r → o ≡ result_ok r → m ≡ ok_or o BookFault.Absent → m ≡ Ok k → Finding e es (Ok k)
+  found_old (Ok j) k h was gave is = let same : j ≡ k = cc in subst (λ i. Finding e es (Ok i)) same h
+  found_old (Err j) k h was gave is = absurd (cc)
 
-pub found_absent : (e : Entry) (es : List Entry) (r : Result ℕ ℕ) (f : BookFault) → Finding e es r → ok_or (result_ok r) BookFault.Absent ≡ Err f → (In e es → ⊥) × (f ≡ BookFault.Absent)
-found_absent e es (Ok j) f h is = absurd (cc)
-found_absent e es (Err j) f h is = (h.0, cc)
+  pub found_absent : (r : Result ℕ ℕ) {o : Option ℕ} {m : Result ℕ BookFault} (f : BookFault) → Finding e es r → o ≡ result_ok r → m ≡ ok_or o BookFault.Absent → m ≡ Err f → (In e es → ⊥) × (f ≡ BookFault.Absent)
+  found_absent (Ok j) f h was gave is = absurd (cc)
+  found_absent (Err j) f h was gave is = (h.0, cc)

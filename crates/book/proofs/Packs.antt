@@ -1,19 +1,16 @@
 -- What the code of a cell book reads and writes, told of its cells and entries.
-use Rattle.std.proofs.Common.{◌≡◌, ℕ, ◌*◌, ◌%◌, ◌^◌, ◌<◌, ◌≤◌, true, false, length, get_or, set, Ok, Err, ◌↔◌, IsTrue, Bool, is_ok, MatchResult, Option, Result, OnOk, List, take, sym, ap, ◌∙◌, subst, arith}
+use Rattle.std.proofs.Common.{◌≡◌, ℕ, ◌<◌, ◌≤◌, true, false, length, get_or, set, Ok, Err, ◌↔◌, IsTrue, Bool, is_ok, MatchResult, Option, Result, OnOk, List, take, sym, ap, ◌∙◌, subst, arith}
 use Rattle.std.specs.List.{slice_get, insert, remove}
 use Rattle.std.specs.Option.{OnSome, ok_or}
 use Rattle.std.specs.Result.{result_ok}
 use Rattle.std.proofs.lemmas.List.Edits.{length-insert, length-remove}
-use Rattle.std.proofs.lemmas.Nat.{one_shl}
 use Rattle.std.proofs.lemmas.Bool.{false≢true}
 use Rattle.std.proofs.lemmas.List.{get_or_default, length-set, take-set-le}
 use Rattle.rights.specs.declared.entries.Entry.{Entry}
 use Rattle.rights.specs.declared.faults.BookFault.{BookFault}
-use Rattle.rights.specs.declared.vocabulary.Right.{Right}
 use Rattle.rights.specs.Bits.{bit}
 use Rattle.rights.specs.Entries.{Proper}
 use Rattle.rights.specs.Lists.{In}
-use Rattle.rights.proofs.Bits.{bit_below}
 use Rattle.book.specs.declared.packed.Cells.{Cells}
 use Rattle.rising.specs.declared.fronts.Front.{Front}
 use Rattle.rising.proofs.Filled.{front_first}
@@ -26,9 +23,6 @@ use Rattle.book.proofs.Counts.{no_cell, orderly_book, few_cells, KeptCells, few_
 use Rattle.book.proofs.Refused.{of_some, of_ok}
 use Rattle.book.proofs.Turns as turn
 use Rattle.book.proofs.Unpacked.{KeyOf}
-
-pub one_bit : (r : Right) (k : ℕ) → k ≡ bit r → (1 * 2 ^ k) % 2 ^ 32 ≡ 2 ^ bit r
-one_bit r k is = let h = bit_below r in one_shl k 32 (omega arith) ∙ ap (λ j. 2 ^ j) is
 
 -- what is known where the cells have changed before they are counted anew from place i on: es will stand
 pub record Changed (b : Cells) (es : List Entry) (i : ℕ) (f : Front Cell) : Type 0 where
@@ -128,9 +122,9 @@ module _ (b : Cells) (e : Entry) (i : ℕ) (found : CellFinding e (cells b) (Err
         changed b _ i f _ (subst (λ y. Refilled b.front (insert (cells b) i y) f) is (of_ok r done ok)) put_inserts put_inserted (omega (arith, found.0)) (front_first i (cells b) _ found.0)
 
 -- where the search for a cell found none
-pub cell_absent : (b : Cells) (e : Entry) (r : Result ℕ ℕ) (f : BookFault) → CellFinding e (cells b) r → ok_or (result_ok r) BookFault.Absent ≡ Err f → (In e (packed b) → ⊥) × (f ≡ BookFault.Absent)
-cell_absent b e (Ok j) f h is = absurd (cc)
-cell_absent b e (Err j) f h is = (absent b e j h, cc)
+pub cell_absent : (b : Cells) (e : Entry) (r : Result ℕ ℕ) {o : Option ℕ} {m : Result ℕ BookFault} (f : BookFault) → CellFinding e (cells b) r → o ≡ result_ok r → m ≡ ok_or o BookFault.Absent → m ≡ Err f → (In e (packed b) → ⊥) × (f ≡ BookFault.Absent)
+cell_absent b e (Ok j) f h was gave is = absurd (cc)
+cell_absent b e (Err j) f h was gave is = (absent b e j h, cc)
 
 -- whether an entry stands is asked of the cell that has its key, if any has
 pub asked : (b : Cells) (e : Entry) (r : Result ℕ ℕ) (t : Bool) (P : ℕ → Type 0) → CellFinding e (cells b) r → MatchResult r P (λ _. t ≡ false) → ((i : ℕ) → P i → t ≡ has (get_or (cells b) i no_cell).rights (bit e.right)) → IsTrue t ↔ In e (packed b)

@@ -8,14 +8,15 @@ ghost use Rattle.book.specs.Keys.{entry_key, cell_key};
 use crate::order::{ROWS, bit_number};
 use rights::{Entry, Right};
 
+/// All entries of one subject, table and grantor.
 #[derive(Clone, Copy)]
 pub struct Cell {
     pub subject: u8,
     pub table: u8,
     pub grantor: u8,
-    // a map by bit number
+    /// a map by bit number
     pub rights: u32,
-    // how many entries stand in the cells before this one
+    /// how many entries stand in the cells before this one
     pub earlier: usize,
 }
 
@@ -27,6 +28,7 @@ pub(crate) struct Key {
     grantor: u8,
 }
 
+// Written out: a key leaves the entry's right behind, which no derive does.
 impl From<Entry> for Key {
     ghost from_gives = { λ e k. k ≡ entry_key e };
 
@@ -76,6 +78,7 @@ impl Cell {
     pub(crate) fn size(&self) -> usize
         ensures { result ≡ length (unpacked self.now) }
     {
+        // a cast, since `usize` has no From<u32>, in Rust either
         self.rights.count_ones() as usize
     }
 

@@ -5,7 +5,7 @@ ghost use Rattle.rights.specs.Entries.{Proper};
 
 use rights::{Entry, Kind, Privilege, Rank, Right, Sign, Strength};
 
-// Row k is the right with bit number k.
+// Row k is the right with bit number k. The stored list of all thirty-two is a form of this project.
 pub(crate) const ROWS: [Right; 32] = [
     Right::Access(Privilege::Select, Sign::Plus, Strength::Weak),
     Right::Access(Privilege::Select, Sign::Plus, Strength::Strong),

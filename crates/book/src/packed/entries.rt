@@ -79,6 +79,7 @@ impl Cells<'_> {
     }
 
     // Takes e from the cell at place i, which has its key; an emptied cell goes.
+    // No function of `put_into` and this: they ask for other bits, and only one can be full, or empty a cell.
     pub(crate) fn take_from(&mut self, i: usize, e: Entry) -> Result<(), BookFault>
         requires cell { CellFinding e (cells self.old) (Ok i) }
         requires proper { Proper e }

@@ -25,6 +25,7 @@ impl<'a> Plain<'a> {
         ensures ceiling { Ceiling (length list.old) wanted (most_standing result) }
         ensures untouched { list_standing result ≡ list.old }
     {
+        // as in a cell book: what both share is `rising`'s, and each makes its own type of it
         let ceiling = ceiling(list.len(), wanted, LIMIT);
         let front = Front::over(list);
         Plain { front, ceiling }

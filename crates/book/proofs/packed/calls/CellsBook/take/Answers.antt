@@ -1,8 +1,6 @@
-use Rattle.std.proofs.Common.{sym, refl, ap, ◌∙◌}
-use Rattle.std.specs.Option.{ok_or}
+use Rattle.std.proofs.Common.{refl}
 use Rattle.std.proofs.lemmas.Bool.{false≢true}
 use Rattle.std.proofs.lemmas.Result.{err_from_is_err_and}
-use Rattle.rights.specs.declared.faults.BookFault.{BookFault}
 use Rattle.book.specs.Packing.{packed}
 use Rattle.book.proofs.Packs.{cell_absent}
 use Rattle.book.proofs.Refused.{take_improper, take_absent}
@@ -15,5 +13,5 @@ pub returns-in_err-i-clause-refuses : goal.returns-in_err-i-clause-refuses
 returns-in_err-i-clause-refuses c =
     let b = c.args.self.now in
     let p = err_from_is_err_and c.from_residual.result c.from_residual.ensures.1 in
-    let t = cell_absent b c.args.e c.cell_of.result _ c.cell_of.ensures (ap (λ o. ok_or o BookFault.Absent) (sym c.ok.ensures.value) ∙ sym c.ok_or.ensures.value ∙ c.in_err-i.was) in
+    let t = cell_absent b c.args.e c.cell_of.result _ c.cell_of.ensures c.ok.ensures.value c.ok_or.ensures.value c.in_err-i.was in
     rw (p.1, p.2, t.1) (take_absent (packed b) 0 c.args.e (c.if-not-proper.ensures.0 refl) t.0)

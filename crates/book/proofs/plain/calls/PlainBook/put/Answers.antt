@@ -1,8 +1,6 @@
-use Rattle.std.proofs.Common.{◌≡◌, length, sym, refl, ap, subst, ◌∙◌}
-use Rattle.std.specs.Option.{ok_or}
+use Rattle.std.proofs.Common.{◌≡◌, length, sym, refl, subst, ◌∙◌}
 use Rattle.std.proofs.lemmas.Bool.{false≢true}
 use Rattle.std.proofs.lemmas.Result.{err_from_is_err_and}
-use Rattle.rights.specs.declared.faults.BookFault.{BookFault}
 use Rattle.rights.specs.Checks.{First}
 use Rattle.book.specs.Effects.{put_checks}
 use Rattle.book.specs.Standing.{standing}
@@ -18,19 +16,19 @@ pub returns-in_err-k-clause-refuses : goal.returns-in_err-k-clause-refuses
 returns-in_err-k-clause-refuses c =
     let b = c.args.self.now in
     let p = err_from_is_err_and c.from_residual.result c.from_residual.ensures.1 in
-    let t = found_taken c.args.e (standing b) c.place_of.result _ c.place_of.ensures (ap (λ o. ok_or o BookFault.Taken) (sym c.err.ensures.value) ∙ sym c.ok_or.ensures.value ∙ c.in_err-k.was) in
+    let t = found_taken c.args.e (standing b) c.place_of.result _ c.place_of.ensures c.err.ensures.value c.ok_or.ensures.value c.in_err-k.was in
     rw (p.1, p.2, t.1) (put_taken (standing b) b.ceiling c.args.e (c.if-not-proper.ensures.0 refl) t.0)
 
 pub returns-then-len-self-clause-refuses : goal.returns-then-len-self-clause-refuses
 returns-then-len-self-clause-refuses c =
     let b = c.args.self.now in
-    let t = found_new c.args.e (standing b) c.place_of.result c.in_ok-k.k c.place_of.ensures (ap (λ o. ok_or o BookFault.Taken) (sym c.err.ensures.value) ∙ sym c.ok_or.ensures.value ∙ c.in_ok-k.was) in
+    let t = found_new c.args.e (standing b) c.place_of.result c.in_ok-k.k c.place_of.ensures c.err.ensures.value c.ok_or.ensures.value c.in_ok-k.was in
     put_full _ _ _ (c.if-not-proper.ensures.0 refl) t.0 (sym c.len.ensures ∙ c.if-len-self.true)
 
 pub invariant_of-self : goal.invariant_of-self
 invariant_of-self c =
     let b = c.args.self.now in
-    let t = found_new c.args.e (standing b) c.place_of.result c.in_ok-k.k c.place_of.ensures (ap (λ o. ok_or o BookFault.Taken) (sym c.err.ensures.value) ∙ sym c.ok_or.ensures.value ∙ c.in_ok-k.was) in
+    let t = found_new c.args.e (standing b) c.place_of.result c.in_ok-k.k c.place_of.ensures c.err.ensures.value c.ok_or.ensures.value c.in_ok-k.was in
     let room : length (standing b) ≡ b.ceiling → ⊥ = λ full. c.if-len-self.false (c.len.ensures ∙ full) in
     let to = of_ok c.insert.result (c.insert.ensures.done.1 (put_fits b c.args.e c.in_ok-k.k t room)) c.insert.ensures.ok in
     put_kept b c.args.e c.in_ok-k.k t room c.insert.new.self to (c.if-not-proper.ensures.0 refl)
@@ -38,7 +36,7 @@ invariant_of-self c =
 pub returns-clause-refuses : goal.returns-clause-refuses
 returns-clause-refuses c =
     let b = c.args.self.now in
-    let t = found_new c.args.e (standing b) c.place_of.result c.in_ok-k.k c.place_of.ensures (ap (λ o. ok_or o BookFault.Taken) (sym c.err.ensures.value) ∙ sym c.ok_or.ensures.value ∙ c.in_ok-k.was) in
+    let t = found_new c.args.e (standing b) c.place_of.result c.in_ok-k.k c.place_of.ensures c.err.ensures.value c.ok_or.ensures.value c.in_ok-k.was in
     let room : length (standing b) ≡ b.ceiling → ⊥ = λ full. c.if-len-self.false (c.len.ensures ∙ full) in
     let none = no_fault c.map_err.result (c.map_err.ensures.variant ∙ c.insert.ensures.done.1 (put_fits b c.args.e c.in_ok-k.k t room)) in
     subst (First (put_checks (standing b) b.ceiling c.args.e)) (sym none) (put_done (standing b) b.ceiling c.args.e (c.if-not-proper.ensures.0 refl) t.0 room)
@@ -46,7 +44,7 @@ returns-clause-refuses c =
 pub returns-clause-put : goal.returns-clause-put
 returns-clause-put c =
     let b = c.args.self.now in
-    let t = found_new c.args.e (standing b) c.place_of.result c.in_ok-k.k c.place_of.ensures (ap (λ o. ok_or o BookFault.Taken) (sym c.err.ensures.value) ∙ sym c.ok_or.ensures.value ∙ c.in_ok-k.was) in
+    let t = found_new c.args.e (standing b) c.place_of.result c.in_ok-k.k c.place_of.ensures c.err.ensures.value c.ok_or.ensures.value c.in_ok-k.was in
     let room : length (standing b) ≡ b.ceiling → ⊥ = λ full. c.if-len-self.false (c.len.ensures ∙ full) in
     let to = of_ok c.insert.result (c.insert.ensures.done.1 (put_fits b c.args.e c.in_ok-k.k t room)) c.insert.ensures.ok in
     on_ok c.map_err.result (put_stands b c.args.e c.in_ok-k.k t room c.insert.new.self to)
