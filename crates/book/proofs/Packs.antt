@@ -1,5 +1,5 @@
 -- What the code of a cell book reads and writes, told of its cells and entries.
-use Rattle.std.proofs.Common.{◌≡◌, ℕ, ◌<◌, ◌≤◌, true, false, length, get_or, set, Ok, Err, ◌↔◌, IsTrue, Bool, is_ok, MatchResult, Option, Result, OnOk, List, take, sym, ap, ◌∙◌, subst, arith}
+use Rattle.std.proofs.Common.{◌≡◌, ℕ, ◌<◌, ◌≤◌, true, false, length, get_or, set, Ok, Err, ◌↔◌, IsTrue, Bool, is_ok, MatchResult, Option, Result, OnOk, List, take, sym, refl, ap, ◌∙◌, subst, arith}
 use Rattle.std.specs.List.{slice_get, insert, remove}
 use Rattle.std.specs.Option.{OnSome, ok_or}
 use Rattle.std.specs.Result.{result_ok}
@@ -44,82 +44,70 @@ changed b es i f cs to o is place same = record {
 }
 
 -- the count is not the ceiling
-pub below : (b : Cells) → (length (packed b) ≡ b.ceiling → ⊥) → length (packed b) < b.ceiling
+below : (b : Cells) → (length (packed b) ≡ b.ceiling → ⊥) → length (packed b) < b.ceiling
 below b other = omega (arith, b.counted)
 
--- the cell at place i has the key of e
-module _ (b : Cells) (e : Entry) (i : ℕ) (found : CellFinding e (cells b) (Ok i)) where
-  key : KeyOf (get_or (cells b) i no_cell) e
-  key = subst (λ c. KeyOf c e) (get_or_default (cells b) i (key_cell e) no_cell found.0) found.1
+-- the cell at place i has the key of e; the cells are read as a list
+module _ (b : Cells) (e : Entry) (i : ℕ) (found : CellFinding e (cells b) (Ok i)) (list : List Cell) (same : list ≡ cells b) where
+  there : KeyOf (get_or (cells b) i no_cell) e
+  there = subst (λ c. KeyOf c e) (get_or_default (cells b) i (key_cell e) no_cell found.0) found.1
 
-  pub set_tells : IsTrue (has (get_or (cells b) i no_cell).rights (bit e.right)) ↔ In e (packed b)
-  set_tells = turn.stands_if_set e (cells b) b.ceiling i no_cell (orderly_book b) found.0 key
+  tells : IsTrue (has (get_or list i no_cell).rights (bit e.right)) ↔ In e (packed b)
+  tells = subst (λ l. IsTrue (has (get_or l i no_cell).rights (bit e.right)) ↔ In e (packed b)) (sym same) (turn.stands_if_set e (cells b) b.ceiling i no_cell (orderly_book b) found.0 there)
 
-  pub unset_tells : has (get_or (cells b) i no_cell).rights (bit e.right) ≡ false → In e (packed b) → ⊥
-  unset_tells unset h = false≢true (sym unset ∙ set_tells.1 h)
+  pub set_stands : true ≡ has (get_or list i no_cell).rights (bit e.right) → In e (packed b)
+  set_stands is = tells.0 (sym is)
 
-  -- the cell that is there has been put back with the bit of e turned
-  turns : (x : Cell) (r : Option Cell) (f : Front Cell) → x ≡ turned (get_or (cells b) i no_cell) e.right → r ≡ slice_get (cells b) i → OnSome r (Refilled b.front (set (cells b) i x) f) → Refilled b.front (set (cells b) i (turned (get_or (cells b) i no_cell) e.right)) f
-  turns x r f is gives some = subst (λ y. Refilled b.front (set (cells b) i y) f) is (of_some r (cells b) i found.0 gives some)
+  pub unset_absent : false ≡ has (get_or list i no_cell).rights (bit e.right) → In e (packed b) → ⊥
+  unset_absent is h = false≢true (is ∙ tells.1 h)
 
-  set_fits : (x : Cell) → i ≤ length (set (cells b) i x)
-  set_fits x = omega (arith, length-set (cells b) i x, found.0)
+  -- as the cells have it
+  in_cells : {t : Bool} → t ≡ has (get_or list i no_cell).rights (bit e.right) → has (get_or (cells b) i no_cell).rights (bit e.right) ≡ t
+  in_cells is = sym (is ∙ ap (λ l. has (get_or l i no_cell).rights (bit e.right)) same)
 
-  set_front : (x : Cell) → take i (set (cells b) i x) ≡ take i (cells b)
-  set_front x = take-set-le i (cells b) i x (omega arith)
+  -- the cell that is there is put back with the bit of e turned
+  module _ (x : Cell) (is : x ≡ turned (get_or list i no_cell) e.right) (r : Option Cell) (gives : r ≡ slice_get (cells b) i) (f : Front Cell) (some : OnSome r (Refilled b.front (set (cells b) i x) f)) where
+    with_back : (es : List Entry) → Orderly (set (cells b) i (turned (get_or (cells b) i no_cell) e.right)) b.ceiling → held (set (cells b) i (turned (get_or (cells b) i no_cell) e.right)) ≡ es → Changed b es i f
+    with_back es o stand =
+        let to = subst (λ y. Refilled b.front (set (cells b) i y) f) (is ∙ ap (λ l. turned (get_or l i no_cell) e.right) same) (of_some r (cells b) i found.0 gives some) in
+        changed b es i f _ to o stand (omega (arith, length-set (cells b) i (turned (get_or (cells b) i no_cell) e.right), found.0)) (take-set-le i (cells b) i _ (omega arith))
 
-  module _ (unset : has (get_or (cells b) i no_cell).rights (bit e.right) ≡ false) (good : Proper e) (room : length (packed b) < b.ceiling) where
-    put_written : held (set (cells b) i (turned (get_or (cells b) i no_cell) e.right)) ≡ with_entry e (packed b)
-    put_written = turn.put_set e (cells b) b.ceiling i no_cell (orderly_book b) found.0 key unset good room
+    pub put_changed : false ≡ has (get_or list i no_cell).rights (bit e.right) → Proper e → (length (packed b) ≡ b.ceiling → ⊥) → Changed b (with_entry e (packed b)) i f
+    put_changed unset good other =
+        let off = in_cells unset in
+        let room = below b other in
+        with_back _ (turn.put_set_orderly e (cells b) b.ceiling i no_cell (orderly_book b) found.0 there off good room) (turn.put_set e (cells b) b.ceiling i no_cell (orderly_book b) found.0 there off good room)
 
-    put_writes : Orderly (set (cells b) i (turned (get_or (cells b) i no_cell) e.right)) b.ceiling
-    put_writes = turn.put_set_orderly e (cells b) b.ceiling i no_cell (orderly_book b) found.0 key unset good room
+    pub take_changed : true ≡ has (get_or list i no_cell).rights (bit e.right) → (length (unpacked (get_or list i no_cell)) ≡ 1 → ⊥) → Changed b (without_entry e (packed b)) i f
+    take_changed is_set more =
+        let on = in_cells is_set in
+        let some_left : length (unpacked (get_or (cells b) i no_cell)) ≡ 1 → ⊥ = λ one. more (ap (λ l. length (unpacked (get_or l i no_cell))) same ∙ one) in
+        with_back _ (turn.take_set_orderly e (cells b) b.ceiling i no_cell (orderly_book b) found.0 there on some_left) (turn.take_set' e (cells b) b.ceiling i no_cell (orderly_book b) found.0 there on)
 
-    pub put_changed : (x : Cell) (r : Option Cell) (f : Front Cell) → x ≡ turned (get_or (cells b) i no_cell) e.right → r ≡ slice_get (cells b) i → OnSome r (Refilled b.front (set (cells b) i x) f) → Changed b (with_entry e (packed b)) i f
-    put_changed x r f is gives some = changed b _ i f _ (turns x r f is gives some) put_writes put_written (set_fits _) (set_front _)
-
-  module _ (is_set : has (get_or (cells b) i no_cell).rights (bit e.right) ≡ true) where
-    take_written : held (set (cells b) i (turned (get_or (cells b) i no_cell) e.right)) ≡ without_entry e (packed b)
-    take_written = turn.take_set' e (cells b) b.ceiling i no_cell (orderly_book b) found.0 key is_set
-
-    take_writes : (length (unpacked (get_or (cells b) i no_cell)) ≡ 1 → ⊥) → Orderly (set (cells b) i (turned (get_or (cells b) i no_cell) e.right)) b.ceiling
-    take_writes more = turn.take_set_orderly e (cells b) b.ceiling i no_cell (orderly_book b) found.0 key is_set more
-
-    pub take_changed : (length (unpacked (get_or (cells b) i no_cell)) ≡ 1 → ⊥) → (x : Cell) (r : Option Cell) (f : Front Cell) → x ≡ turned (get_or (cells b) i no_cell) e.right → r ≡ slice_get (cells b) i → OnSome r (Refilled b.front (set (cells b) i x) f) → Changed b (without_entry e (packed b)) i f
-    take_changed more x r f is gives some = changed b _ i f _ (turns x r f is gives some) (take_writes more) take_written (set_fits _) (set_front _)
-
-    module _ (one : length (unpacked (get_or (cells b) i no_cell)) ≡ 1) where
-      take_removed : held (remove (cells b) i) ≡ without_entry e (packed b)
-      take_removed = turn.take_cell e (cells b) b.ceiling i no_cell (orderly_book b) found.0 key is_set one
-
-      take_removes : Orderly (remove (cells b) i) b.ceiling
-      take_removes = turn.take_cell_orderly e (cells b) b.ceiling i no_cell (orderly_book b) found.0 key is_set one
-
-      pub take_shrunk : (r : Option Cell) (f : Front Cell) → r ≡ slice_get (cells b) i → OnSome r (Refilled b.front (remove (cells b) i) f) → Changed b (without_entry e (packed b)) i f
-      take_shrunk r f gives some =
-          let less = length-remove (cells b) i found.0 in
-          changed b _ i f _ (of_some r (cells b) i found.0 gives some) take_removes take_removed (omega (arith, found.0)) (front_first i (cells b) _ (omega (arith, found.0)))
+  pub take_shrunk : true ≡ has (get_or list i no_cell).rights (bit e.right) → length (unpacked (get_or list i no_cell)) ≡ 1 → (r : Option Cell) → r ≡ slice_get (cells b) i → (f : Front Cell) → OnSome r (Refilled b.front (remove (cells b) i) f) → Changed b (without_entry e (packed b)) i f
+  take_shrunk is_set size r gives f some =
+      let on = in_cells is_set in
+      let one = sym (ap (λ l. length (unpacked (get_or l i no_cell))) same) ∙ size in
+      let less = length-remove (cells b) i found.0 in
+      changed b _ i f _ (of_some r (cells b) i found.0 gives some) (turn.take_cell_orderly e (cells b) b.ceiling i no_cell (orderly_book b) found.0 there on one)
+      (turn.take_cell e (cells b) b.ceiling i no_cell (orderly_book b) found.0 there on one) (omega (arith, found.0)) (front_first i (cells b) _ (omega (arith, found.0)))
 
 -- no cell has the key of e
 module _ (b : Cells) (e : Entry) (i : ℕ) (found : CellFinding e (cells b) (Err i)) where
   pub absent : In e (packed b) → ⊥
   absent = turn.stands_nowhere e (cells b) b.ceiling i (orderly_book b) found
 
-  module _ (good : Proper e) (room : length (packed b) < b.ceiling) where
+  module _ (good : Proper e) (other : length (packed b) ≡ b.ceiling → ⊥) where
     -- no more cells are used than entries stand, so there is room for one more below the ceiling
     pub cell_fits : (i ≤ length (cells b)) × (length (cells b) < length (whole b.front))
-    cell_fits = let few = few_cells (cells b) (orderly_book b).filled in (found.0, omega (arith, b.room))
+    cell_fits = let few = few_cells (cells b) (orderly_book b).filled in let room = below b other in (found.0, omega (arith, b.room))
 
-    put_inserted : held (insert (cells b) i (turned (key_cell e) e.right)) ≡ with_entry e (packed b)
-    put_inserted = turn.put_cell e (cells b) b.ceiling i (orderly_book b) found good room
-
-    put_inserts : Orderly (insert (cells b) i (turned (key_cell e) e.right)) b.ceiling
-    put_inserts = turn.put_cell_orderly e (cells b) b.ceiling i (orderly_book b) found good room
-
-    pub put_grown : {X : Type 0} (x : Cell) (r : Result (Unit {0}) X) (f : Front Cell) → x ≡ turned (key_cell e) e.right → is_ok r ≡ true → OnOk r (Refilled b.front (insert (cells b) i x) f) → Changed b (with_entry e (packed b)) i f
-    put_grown x r f is done ok =
+    pub put_grown : {X : Type 0} (x : Cell) → x ≡ turned (key_cell e) e.right → (r : Result (Unit {0}) X) → is_ok r ≡ true → (f : Front Cell) → OnOk r (Refilled b.front (insert (cells b) i x) f) → Changed b (with_entry e (packed b)) i f
+    put_grown x is r done f ok =
+        let room = below b other in
         let more = length-insert (cells b) i (turned (key_cell e) e.right) found.0 in
-        changed b _ i f _ (subst (λ y. Refilled b.front (insert (cells b) i y) f) is (of_ok r done ok)) put_inserts put_inserted (omega (arith, found.0)) (front_first i (cells b) _ found.0)
+        changed b _ i f _ (subst (λ y. Refilled b.front (insert (cells b) i y) f) is (of_ok r done ok)) (turn.put_cell_orderly e (cells b) b.ceiling i (orderly_book b) found good room)
+        (turn.put_cell e (cells b) b.ceiling i (orderly_book b) found good room) (omega (arith, found.0)) (front_first i (cells b) _ found.0)
 
 -- where the search for a cell found none
 pub cell_absent : (b : Cells) (e : Entry) (r : Result ℕ ℕ) {o : Option ℕ} {m : Result ℕ BookFault} (f : BookFault) → CellFinding e (cells b) r → o ≡ result_ok r → m ≡ ok_or o BookFault.Absent → m ≡ Err f → (In e (packed b) → ⊥) × (f ≡ BookFault.Absent)
@@ -128,5 +116,5 @@ cell_absent b e (Err j) f h was gave is = (absent b e j h, cc)
 
 -- whether an entry stands is asked of the cell that has its key, if any has
 pub asked : (b : Cells) (e : Entry) (r : Result ℕ ℕ) (t : Bool) (P : ℕ → Type 0) → CellFinding e (cells b) r → MatchResult r P (λ _. t ≡ false) → ((i : ℕ) → P i → t ≡ has (get_or (cells b) i no_cell).rights (bit e.right)) → IsTrue t ↔ In e (packed b)
-asked b e (Ok i) t P found says holds = subst (λ x. IsTrue x ↔ In e (packed b)) (sym (holds i says)) (set_tells b e i found)
+asked b e (Ok i) t P found says holds = subst (λ x. IsTrue x ↔ In e (packed b)) (sym (holds i says)) (tells b e i found (cells b) refl)
 asked b e (Err i) t P found fails holds = ((λ passes. absurd (false≢true (sym fails ∙ passes))), (λ h. absurd (absent b e i found h)))

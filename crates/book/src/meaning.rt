@@ -19,7 +19,7 @@ pub trait Book {
     // the most entries that may stand
     ghost most: { Self → ℕ };
 
-    // what a change leaves of the caller's list past what is used; a book that borrows none says nothing
+    // what a change leaves of the caller's list past what is used; a book without one says nothing
     ghost leaves_rest: { Self → Self → Type 0 } = { λ _ _. Unit {0} };
 
     // What each book must keep.
@@ -35,7 +35,7 @@ pub trait Book {
 
     /// Whether the entry stands; one out of range never does.
     fn holds(&self, e: Entry) -> bool
-        ensures { IsTrue result ↔ In e (entries self.now) };
+        ensures { IsTrue result ↔ (In e (entries self.now)) };
 
     /// The entry at place k from 0, nothing when k is not below the count.
     fn at(&self, k: usize) -> Option<Entry>
@@ -43,7 +43,8 @@ pub trait Book {
 
     /// Puts an entry in its place.
     fn put(&mut self, e: Entry) -> Result<(), BookFault>
-        ensures refuses { First (put_checks (entries self.old) (most self.old) e) (fault_of result) }
+        ensures refuses { First (put_checks (entries self.old) (most self.old) e)
+            (fault_of result) }
         ensures put { OnOk result (entries self.new ≡ with_entry e (entries self.old)) }
         ensures unchanged { OnErr result (entries self.new ≡ entries self.old) }
         ensures ceiling { most self.new ≡ most self.old }

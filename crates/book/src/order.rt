@@ -5,7 +5,7 @@ ghost use Rattle.rights.specs.Entries.{Proper};
 
 use rights::{Entry, Kind, Privilege, Rank, Right, Sign, Strength};
 
-// Row k is the right with bit number k. The stored list of all thirty-two is a form of this project.
+// Row k is the right with bit number k. That all thirty-two are stored is a form of this project.
 pub(crate) const ROWS: [Right; 32] = [
     Right::Access(Privilege::Select, Sign::Plus, Strength::Weak),
     Right::Access(Privilege::Select, Sign::Plus, Strength::Strong),
@@ -50,7 +50,7 @@ pub(crate) fn bit_number(right: Right) -> usize
 
 // Every number of the entry is in its range.
 pub(crate) fn proper(e: &Entry) -> bool
-    ensures { IsTrue result ↔ Proper e.now }
+    ensures { IsTrue result ↔ (Proper e.now) }
 {
     e.subject != 0 && e.table <= 127 && e.grantor != 0
 }

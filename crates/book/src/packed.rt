@@ -1,4 +1,4 @@
-// The cell book: one cell for each subject, table and grantor that has an entry, in the caller's list.
+// The cell book, in the caller's list: one cell for each subject, table and grantor that has an entry.
 ghost use Rattle.std.specs.Prelude.{◌≡◌, ◌≤◌, true, length};
 ghost use Rattle.rights.specs.Entries.{sound};
 ghost use Rattle.book.specs.Cells.{held, climbs, numbered};

@@ -19,7 +19,7 @@ impl<'a> Cells<'a> {
         Ok(check_room(list.len(), wanted, LIMIT)?)
     }
 
-    /// An empty book over the list, with the ceiling wanted, or with ceiling 0 where the check refuses.
+    /// An empty book over the list, with the ceiling wanted, or 0 where the check refuses.
     pub fn new(list: &'a mut [Cell], wanted: usize) -> Cells<'a>
         ensures empty { packed result ≡ [] }
         ensures ceiling { Ceiling (length list.old) wanted (most_packed result) }

@@ -23,7 +23,7 @@ pub(crate) fn recount(front: &mut Front<Cell>, i: usize)
     ensures { Refilled front.old (counted_on 0 (stored front.old)) front.new }
 {
     let mut count = held_by(&front.as_slice()[..i]);
-    // by place, not over the cells: after `iter_mut` a proof knows how many cells there are, and none of them
+    // By place, since after `iter_mut` a proof knows how many cells there are, and none of them.
     for k in i..front.len() {
         let mut cell = front.as_slice()[k];
         cell.earlier = count;

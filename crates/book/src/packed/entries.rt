@@ -44,7 +44,8 @@ impl Cells<'_> {
     pub(crate) fn put_into(&mut self, i: usize, e: Entry) -> Result<(), BookFault>
         requires cell { CellFinding e (cells self.old) (Ok i) }
         requires proper { Proper e }
-        ensures refuses { First (put_checks (packed self.old) (most_packed self.old) e) (fault_of result) }
+        ensures refuses { First (put_checks (packed self.old) (most_packed self.old) e)
+            (fault_of result) }
         ensures put { OnOk result (Becomes self.old (with_entry e (packed self.old)) self.new) }
         ensures unchanged { OnErr result (self.new ≡ self.old) }
     {
@@ -64,7 +65,8 @@ impl Cells<'_> {
     pub(crate) fn put_new(&mut self, i: usize, e: Entry) -> Result<(), BookFault>
         requires cell { CellFinding e (cells self.old) (Err i) }
         requires proper { Proper e }
-        ensures refuses { First (put_checks (packed self.old) (most_packed self.old) e) (fault_of result) }
+        ensures refuses { First (put_checks (packed self.old) (most_packed self.old) e)
+            (fault_of result) }
         ensures put { OnOk result (Becomes self.old (with_entry e (packed self.old)) self.new) }
         ensures unchanged { OnErr result (self.new ≡ self.old) }
     {
@@ -79,12 +81,13 @@ impl Cells<'_> {
     }
 
     // Takes e from the cell at place i, which has its key; an emptied cell goes.
-    // No function of `put_into` and this: they ask for other bits, and only one can be full, or empty a cell.
+    // Not one function with `put_into`, which asks for the other bit and the ceiling, and empties none.
     pub(crate) fn take_from(&mut self, i: usize, e: Entry) -> Result<(), BookFault>
         requires cell { CellFinding e (cells self.old) (Ok i) }
         requires proper { Proper e }
         ensures refuses { First (take_checks (packed self.old) e) (fault_of result) }
-        ensures taken { OnOk result (Becomes self.old (without_entry e (packed self.old)) self.new) }
+        ensures taken { OnOk result
+            (Becomes self.old (without_entry e (packed self.old)) self.new) }
         ensures unchanged { OnErr result (self.new ≡ self.old) }
     {
         let cell = self.front.as_slice()[i];
