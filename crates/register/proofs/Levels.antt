@@ -1,10 +1,10 @@
 -- The levels that are written down are the levels of the rules, and the tests of names are the rules' conditions.
 -- Assumes nothing.
-use Rattle.std.proofs.Common.{◌≡◌, ℕ, zero, suc, ◌+◌, ◌-◌, ◌<◌, ◌≤◌, true, ◌&&◌, ltb, List, [], ◌∷◌, length, get_or, drop, is_some, IfSome, Some, None, Decides, Option, sym, refl, ap, ◌∙◌, subst, inr, arith, length-drop}
+use Rattle.std.proofs.Common.{◌≡◌, ℕ, zero, suc, ◌<◌, ◌≤◌, true, ltb, List, [], ◌∷◌, get_or, is_some, IfSome, Some, None, Option, sym, refl, ap, ◌∙◌, subst, inr, arith}
+use Rattle.std.specs.Prelude.{◌↔◌, IsTrue}
 use Rattle.std.specs.Option.{option_map}
 use Rattle.std.specs.List.{AllByRecursion}
-use Rattle.std.proofs.ByRecursion.{All-weaker}
-use Rattle.std.proofs.lemmas.List.{drop_more}
+use Rattle.std.proofs.lemmas.List.Elements.{All-weaker, All-from_recursion, recursion_from_All}
 use Rattle.std.proofs.lemmas.Bool.{and_parts, and_from, ltb-true, lt-ltb}
 use Rattle.rights.specs.declared.records.Subject.{Subject}
 use Rattle.rights.specs.declared.records.TableRecord.{TableRecord}
@@ -30,6 +30,11 @@ pub stand_from : (ts : List (Option TableRecord)) (ds : List ℕ) → AllByRecur
 stand_from ts [] h = refl
 stand_from ts (d ∷ ds) h = and_from _ _ (stands_row ts d h.0) (stand_from ts ds h.1)
 
+-- what holds of every record that a row could be holds of the one that it is
+pub told : (o : Option TableRecord) (P : TableRecord → Type 0) → ((x : TableRecord) → o ≡ Some x → P x) → IfSome o P
+told None P each = tt
+told (Some x) P each = each x refl
+
 module _ (ss : List (Option Subject)) (ts : List (Option TableRecord)) (s : Sound ss ts) where
   over : (n : ℕ) → ((t : ℕ) (r : TableRecord) → get_or ts t None ≡ Some r → r.level < n → Level (tables_of ts) t r.level) → (ds : List ℕ) → stand ts ds ≡ true → level_over ts ds ≤ n → LevelOver (tables_of ts) ds (level_over ts ds)
   over n below [] e low = LevelOver.over_none
@@ -46,11 +51,6 @@ module _ (ss : List (Option Subject)) (ts : List (Option TableRecord)) (s : Soun
 
   pub level_is : (t : ℕ) (r : TableRecord) → get_or ts t None ≡ Some r → Level (tables_of ts) t r.level
   level_is t r e = levels (suc r.level) t r e (omega arith)
-
-  -- of a row that is looked up
-  pub level_told : (t : ℕ) (o : Option TableRecord) → get_or ts t None ≡ o → IfSome o (λ x. Level (tables_of ts) t x.level)
-  level_told t None e = tt
-  level_told t (Some r) e = level_is t r e
 
   pub level_over_is : (ds : List ℕ) → stand ts ds ≡ true → LevelOver (tables_of ts) ds (level_over ts ds)
   level_over_is ds e = over (level_over ts ds) (levels (level_over ts ds)) ds e (omega arith)
@@ -74,7 +74,7 @@ above d [] e = tt
 above d (x ∷ ds) e =
     let both = and_parts (ltb d x) (rise (x ∷ ds)) e in
     let first = ltb-true d x both.0 in
-    (first, All-weaker (λ y. x < y) (λ y. d < y) (λ y later. omega arith) ds (above x ds both.1))
+    (first, recursion_from_All _ ds (All-weaker (λ y. x < y) (λ y. d < y) (λ y later. omega arith) ds (All-from_recursion _ ds (above x ds both.1))))
 
 rising_from : (ds : List ℕ) → rise ds ≡ true → Rising ◌<◌ ds
 rising_from [] e = tt
@@ -85,21 +85,7 @@ rise_from [] h = refl
 rise_from (d ∷ []) h = refl
 rise_from (d ∷ x ∷ ds) h = and_from _ _ (lt-ltb d x h.0.0) (rise_from (x ∷ ds) h.1)
 
--- the test of neighbours, from the list's front to its end
-pub rise_more : (xs : List ℕ) (k : ℕ) → 1 ≤ k → k < length xs → rise (drop (k - 1) xs) ≡ (ltb (get_or xs (k - 1) 0) (get_or xs k 0) && rise (drop k xs))
-rise_more xs k some lt =
-    let back : k - 1 + 1 ≡ k = omega arith in
-    ap rise (drop_more xs (k - 1) 0 (omega arith) ∙ ap (λ j. get_or xs (k - 1) 0 ∷ drop j xs) back ∙ ap (λ ys. get_or xs (k - 1) 0 ∷ ys) (drop_more xs k 0 lt)) ∙ ap (λ ys. ltb (get_or xs (k - 1) 0) (get_or xs k 0) && rise ys) (sym (drop_more xs k 0 lt))
-
-rise_short : (xs : List ℕ) → length xs ≤ 1 → rise xs ≡ true
-rise_short [] h = refl
-rise_short (x ∷ []) h = refl
-rise_short (x ∷ y ∷ xs) h = absurd (omega arith)
-
-pub rise_all : (xs : List ℕ) (k : ℕ) → length xs ≤ k → rise (drop (k - 1) xs) ≡ true
-rise_all xs k h = rise_short (drop (k - 1) xs) (simp length-drop (omega arith))
-
-pub rise_decides : (ds : List ℕ) → Decides (rise ds) (Rising ◌<◌ ds)
+pub rise_decides : (ds : List ℕ) → IsTrue (rise ds) ↔ Rising ◌<◌ ds
 rise_decides ds = (rising_from ds, rise_from ds)
 
 -- where nothing stands, the row is empty

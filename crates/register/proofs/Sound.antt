@@ -9,7 +9,7 @@ use Rattle.std.proofs.lemmas.Bool.{false≢true, cases_eq, eqb-true, eqb-false, 
 use Rattle.rights.specs.Subjects.{enrolled}
 use Rattle.rights.specs.Tables.{made}
 use Rattle.rights.proofs.Checks.{none_some}
-use Rattle.register.specs.Rows.{NoOffice, Owned, Few, Standing, RisingNames, Levelled, Low, subjects_of, tables_of, table_of, names_of, is_person, level_at, level_over, stand, rise}
+use Rattle.register.specs.Rows.{NoOffice, Owned, Few, BlankPast, BlankRest, Standing, RisingNames, Levelled, Low, subjects_of, tables_of, table_of, names_of, is_person, level_at, level_over, stand, rise}
 
 pub record Sound (ss : List (Option Subject)) (ts : List (Option TableRecord)) : Type 0 where
   pub wide : length ss ≡ 256
@@ -17,6 +17,7 @@ pub record Sound (ss : List (Option Subject)) (ts : List (Option TableRecord)) :
   pub office : NoOffice ss
   pub owned : Owned ss ts
   pub few : Few ts
+  pub blank : BlankRest ts
   pub standing : Standing ts
   pub rising : RisingNames ts
   pub levelled : Levelled ts
@@ -43,6 +44,7 @@ Parts ss ts = record {
   office : NoOffice ss;
   owned : Owned ss ts;
   few : Few ts;
+  blank : BlankRest ts;
   standing : Standing ts;
   rising : RisingNames ts;
   levelled : Levelled ts;
@@ -50,7 +52,7 @@ Parts ss ts = record {
 }
 
 pub parts : {ss : List (Option Subject)} {ts : List (Option TableRecord)} → Sound ss ts → Parts ss ts
-parts s = record { wide = s.wide; long = s.long; office = s.office; owned = s.owned; few = s.few; standing = s.standing; rising = s.rising; levelled = s.levelled; low = s.low }
+parts s = record { wide = s.wide; long = s.long; office = s.office; owned = s.owned; few = s.few; blank = s.blank; standing = s.standing; rising = s.rising; levelled = s.levelled; low = s.low }
 
 no_row : (m t : ℕ) (r : TableRecord) → get_or (replicate m None) t None ≡ Some r → ⊥
 no_row m t r e = none_some _ (sym (get_or_fill None m t) ∙ e)
@@ -62,6 +64,7 @@ sound_none = record {
   office = refl;
   owned = λ t r e. absurd (no_row 128 t r e);
   few = λ t r e. absurd (no_row 128 t r e);
+  blank = λ t r e. absurd (no_row 128 t r e);
   standing = λ t r e. absurd (no_row 128 t r e);
   rising = λ t r e. absurd (no_row 128 t r e);
   levelled = λ t r e. absurd (no_row 128 t r e);
@@ -80,6 +83,7 @@ module _ (ss : List (Option Subject)) (ts : List (Option TableRecord)) (n : ℕ)
     office = ap is_some (get_or-set_other ss n 0 (Some x) None (omega arith)) ∙ s.office;
     owned = λ t r e. kept r.owner (s.owned t r e);
     few = s.few;
+    blank = s.blank;
     standing = s.standing;
     rising = s.rising;
     levelled = s.levelled;
@@ -112,6 +116,7 @@ pub record Fits (ss : List (Option Subject)) (ts : List (Option TableRecord)) (t
   pub within : t < length ts
   pub owned : is_person (get_or ss x.owner None) ≡ true
   pub few : x.count ≤ 8
+  pub blank : BlankPast x
   pub standing : stand ts (names_of x) ≡ true
   pub rising : rise (names_of x) ≡ true
   pub levelled : x.level ≡ level_over ts (names_of x)
@@ -146,6 +151,7 @@ module _ (ss : List (Option Subject)) (ts : List (Option TableRecord)) (t : ℕ)
     office = s.office;
     owned = each_row (λ r. is_person (get_or ss r.owner None) ≡ true) fits.owned s.owned;
     few = each_row (λ r. r.count ≤ 8) fits.few s.few;
+    blank = each_row BlankPast fits.blank s.blank;
     standing = each_row (λ r. stand (set ts t (Some x)) (names_of r) ≡ true) (stand_kept _ fits.standing) (λ k r e. stand_kept _ (s.standing k r e));
     rising = each_row (λ r. rise (names_of r) ≡ true) fits.rising s.rising;
     levelled = each_row (λ r. r.level ≡ level_over (set ts t (Some x)) (names_of r)) (fits.levelled ∙ sym (level_kept _ fits.standing)) (λ k r e. s.levelled k r e ∙ sym (level_kept _ (s.standing k r e)));

@@ -1,5 +1,5 @@
 -- The catalogue's rows of records, what they mean, and what every catalogue keeps to.
--- subjects_of, tables_of: the meaning. NoOffice, Owned, Few, Standing, RisingNames, Levelled, Low: the invariant.
+-- subjects_of, tables_of: the meaning. NoOffice, Owned, Few, BlankRest, Standing, RisingNames, Levelled, Low: the invariant.
 use Rattle.std.specs.Prelude.{◌≡◌, ℕ, ◌+◌, ◌≤◌, max, Bool, true, false, ◌&&◌, List, [], ◌∷◌, take, is_some, Some, None, Option, nat_lt, slice_index_or}
 use Rattle.std.specs.Option.{option_map}
 use Rattle.rights.specs.declared.records.Subject.{Subject}
@@ -57,6 +57,13 @@ Owned ss ts = (t : ℕ) (r : TableRecord) → slice_index_or ts t None ≡ Some 
 -- a table names at most 8 tables, which stand, in strictly rising number
 abbrev pub Few : List (Option TableRecord) → Type 0
 Few ts = (t : ℕ) (r : TableRecord) → slice_index_or ts t None ≡ Some r → r.count ≤ 8
+
+-- past the tables that a record names its list is 0
+abbrev pub BlankPast : TableRecord → Type 0
+BlankPast r = (k : ℕ) → r.count ≤ k → slice_index_or r.names k 0 ≡ 0
+
+abbrev pub BlankRest : List (Option TableRecord) → Type 0
+BlankRest ts = (t : ℕ) (r : TableRecord) → slice_index_or ts t None ≡ Some r → BlankPast r
 
 abbrev pub Standing : List (Option TableRecord) → Type 0
 Standing ts = (t : ℕ) (r : TableRecord) → slice_index_or ts t None ≡ Some r → stand ts (names_of r) ≡ true

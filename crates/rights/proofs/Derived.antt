@@ -1,5 +1,5 @@
 -- The derived orders of pairs and of entries are the rules' own.
-use Rattle.std.proofs.Common.{◌≡◌, ℕ, ◌+◌, ◌*◌, ◌<◌, ◌≤◌, refl, ap, sym, arith, inl, inr, ◌∙◌}
+use Rattle.std.proofs.Common.{◌≡◌, ℕ, ◌+◌, ◌*◌, ◌<◌, ◌≤◌, refl, sym, arith, inl, inr}
 use Rattle.std.specs.Ordering.{MatchOrdering, nat_cmp, ordering_then}
 use Rattle.std.specs.declared.cmp.Ordering.{Ordering}
 use Rattle.std.proofs.lemmas.Nat.{mul-add-lt}
@@ -34,10 +34,10 @@ use Rattle.rights.specs.declared.vocabulary.Rank.TheVariants as rank
 privilege_order : (x y : Privilege) → (privilege_ord.ghosts).cmp x y ≡ nat_cmp (privilege_number x) (privilege_number y)
 privilege_order =
     elim [
-      Select ↦ elim [ Select ↦ refl | Insert ↦ refl | Delete ↦ refl | Update ↦ refl ]
-    | Insert ↦ elim [ Select ↦ refl | Insert ↦ refl | Delete ↦ refl | Update ↦ refl ]
-    | Delete ↦ elim [ Select ↦ refl | Insert ↦ refl | Delete ↦ refl | Update ↦ refl ]
-    | Update ↦ elim [ Select ↦ refl | Insert ↦ refl | Delete ↦ refl | Update ↦ refl ]
+      | Select ↦ elim [ Select ↦ refl | Insert ↦ refl | Delete ↦ refl | Update ↦ refl ]
+      | Insert ↦ elim [ Select ↦ refl | Insert ↦ refl | Delete ↦ refl | Update ↦ refl ]
+      | Delete ↦ elim [ Select ↦ refl | Insert ↦ refl | Delete ↦ refl | Update ↦ refl ]
+      | Update ↦ elim [ Select ↦ refl | Insert ↦ refl | Delete ↦ refl | Update ↦ refl ]
     ]
 
 sign_order : (x y : Sign) → (sign_ord.ghosts).cmp x y ≡ nat_cmp (sign_number x) (sign_number y)
@@ -82,9 +82,9 @@ by_parts n a m x k hm hk =
     by_ranked _ _ _ (nat_cmp a x) (ranked a x _ refl)
     (λ e (h : a < x). let l : a * n + m < n * x = mul-add-lt a n m x h hm in let l : n * a + m < n * x + k = omega arith in rw e (sym (ordered _ _ l)))
     (λ e (h : a ≡ x). rw (e, h) (by_ranked _ _ _ (nat_cmp m k) (ranked m k _ refl)
-        (λ d (j : m < k). let l : n * x + m < n * x + k = omega arith in rw d (sym (ordered _ _ l)))
-        (λ d (j : m ≡ k). rw (d, j) (sym (level (n * x + k) _ refl)))
-        (λ d (j : k < m). let l : n * x + k < n * x + m = omega arith in rw d (sym (behind _ _ l)))))
+    (λ d (j : m < k). let l : n * x + m < n * x + k = omega arith in rw d (sym (ordered _ _ l)))
+    (λ d (j : m ≡ k). rw (d, j) (sym (level (n * x + k) _ refl)))
+    (λ d (j : k < m). let l : n * x + k < n * x + m = omega arith in rw d (sym (behind _ _ l)))))
     (λ e (h : x < a). let l : x * n + k < n * a = mul-add-lt x n k a h hk in let l : n * x + k < n * a + m = omega arith in rw e (sym (behind _ _ l)))
 
 shifted : (n a b : ℕ) → nat_cmp a b ≡ nat_cmp (n + a) (n + b)
@@ -123,9 +123,9 @@ pair_order p q =
     by_ranked _ _ _ (nat_cmp p.member q.member) (ranked p.member q.member _ refl)
     (λ e (h : p.member < q.member). rw e (omega arith, λ same. omega (arith, same)))
     (λ e (h : p.member ≡ q.member). rw e (by_ranked _ _ _ (nat_cmp p.group q.group) (ranked p.group q.group _ refl)
-        (λ d (k : p.group < q.group). rw d (omega (arith, h), λ same. k))
-        (λ d (k : p.group ≡ q.group). rw d (λ i. record { member = h i; group = k i }))
-        (λ d (k : q.group < p.group). rw d (omega (arith, h), λ same. k))))
+    (λ d (k : p.group < q.group). rw d (omega (arith, h), λ same. k))
+    (λ d (k : p.group ≡ q.group). rw d (λ i. record { member = h i; group = k i }))
+    (λ d (k : q.group < p.group). rw d (omega (arith, h), λ same. k))))
     (λ e (h : q.member < p.member). rw e (omega arith, λ same. omega (arith, same)))
 
 -- what the answer of a comparison says

@@ -1,5 +1,6 @@
 -- Runs: the answers that the rules give to a list of commands, and the history that they lead to.
--- Answered: the one right answer to a command. Step: that answer with what comes of it. Run: a list of steps.
+-- Accepted: the answer to a command that is carried out. Step: the one right answer to a command with what comes
+-- of it. Run: a list of steps.
 use Rattle.std.specs.Prelude.{◌≡◌, List, [], ◌∷◌, length, Some, None}
 use Rattle.rights.specs.declared.commands.Answer.{Answer}
 use Rattle.rights.specs.declared.commands.Command.{Command}

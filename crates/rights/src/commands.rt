@@ -1,9 +1,11 @@
 // The commands of a sitting with their numbers as they came, and the answers.
-ghost use Rattle.std.specs.Prelude.{◌≤◌};
+ghost use Rattle.std.specs.Prelude.{◌≡◌, ◌≤◌};
+ghost use Rattle.rights.specs.Numbers.{ground_number};
 
 use crate::faults::SheetFault;
 
-// The tables that a view names, as they were written: the first `count` of the list.
+/// The tables that a view names, as they were written: the first `count` of the list.
+// An array with a count: a command is copied, and is read without a heap.
 #[derive(Clone, Copy)]
 pub struct Named {
     pub count: usize,
@@ -11,6 +13,7 @@ pub struct Named {
     ghost few: { count ≤ 14 },
 }
 
+/// A command, with its numbers as they came, in range or not.
 #[derive(Clone, Copy)]
 pub enum Command {
     User {
@@ -84,8 +87,8 @@ pub enum Command {
     },
 }
 
-// Why a question was answered so: 0 no rule gives it, 1 a strong entry, 2 weak entries, 3 the
-// tables that the view names.
+/// Why a question was answered so: 0 no rule gives it, 1 a strong entry, 2 weak entries, 3 the
+/// tables that the view names.
 #[derive(Clone, Copy, PartialEq, Eq, Debug)]
 pub enum Ground {
     Nothing,
@@ -94,7 +97,21 @@ pub enum Ground {
     Named,
 }
 
-// What a line is answered by.
+// The number that a ground is written with; by hand for `from_gives`, which no derive gives.
+impl From<Ground> for u32 {
+    ghost from_gives = { λ g r. r ≡ ground_number g };
+
+    fn from(ground: Ground) -> u32 {
+        match ground {
+            Ground::Nothing => 0,
+            Ground::Strong => 1,
+            Ground::Weak => 2,
+            Ground::Named => 3,
+        }
+    }
+}
+
+/// What a line is answered by.
 #[derive(Clone, Copy, PartialEq, Eq, Debug)]
 pub enum Answer {
     Done,
@@ -104,7 +121,7 @@ pub enum Answer {
     Refused(SheetFault),
 }
 
-// The states of a sitting.
+/// The states of a sitting.
 #[derive(Clone, Copy, PartialEq, Eq)]
 pub enum State {
     SettingUp,

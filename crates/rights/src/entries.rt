@@ -1,7 +1,7 @@
 // What a book holds, entries, and what a roll holds, pairs.
 use crate::vocabulary::Right;
 
-// A right on a table for a subject, granted by a person.
+/// A right on a table for a subject, granted by a person.
 #[derive(Clone, Copy, PartialEq, Eq, PartialOrd, Ord, Debug)]
 pub struct Entry {
     pub subject: u8,
@@ -10,7 +10,7 @@ pub struct Entry {
     pub right: Right,
 }
 
-// A person or group that is a direct member of a group.
+/// A person or group that is a direct member of a group.
 #[derive(Clone, Copy, PartialEq, Eq, PartialOrd, Ord, Debug)]
 pub struct Pair {
     pub member: u8,

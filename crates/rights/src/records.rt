@@ -1,5 +1,6 @@
 // What the catalogue knows of a subject and of a table.
 
+/// What is registered under a number: a person or a group.
 #[derive(Clone, Copy, PartialEq, Eq)]
 pub enum Subject {
     // a person, with the creator's mark or without
@@ -7,7 +8,9 @@ pub enum Subject {
     Group,
 }
 
-// The tables that a view names are the first `count` of the list; a base table names none.
+/// A table: its owner, its level, and the tables that it names, the first `count` of the list and 0 past
+/// them; a base table names none.
+// An array with a count: a record is copied out of the catalogue, which has no heap.
 #[derive(Clone, Copy)]
 pub struct TableRecord {
     pub owner: u8,

@@ -19,17 +19,17 @@ use Rattle.rights.specs.Subjects.{enrolled}
 use Rattle.rights.specs.Tables.{Table, made}
 use Rattle.rights.proofs.Checks.{first_none}
 use Rattle.rights.proofs.Steps.{out_of_turn, refused_step, accepted_step}
-use Rattle.sitting.specs.Counts.{Counted}
-use Rattle.sitting.specs.Today.{runs, history_of, answer_of, Answered, Tallied}
+use Rattle.sitting.specs.Today.{runs, history_of, answer_of, Answered}
+
+-- what the sheet makes of the register's answer
+abbrev pub passed_up : Result (Unit {0}) RegisterFault → Result (Unit {0}) SheetFault
+passed_up (Ok x) = Ok x
+passed_up (Err f) = Err (SheetFault.Register f)
 
 -- a call that the register answered with r, in a state that takes the word
-step_by : (state : State) (h h' : History) (c : Command) (r : Result (Unit {0}) RegisterFault) → Takes state c → next_state state c ≡ state → ((lent : Lent) → First (checks lent h c) (fault_of r)) → MatchResult r (λ _. Accepted h c [] Answer.Done × Becomes h c [] h') (λ _. h' ≡ h) → (lent : Lent) → Step lent state h c [] (answer_of r) state h'
+step_by : (state : State) (h h' : History) (c : Command) (r : Result (Unit {0}) RegisterFault) → Takes state c → next_state state c ≡ state → ((lent : Lent) → First (checks lent h c) (fault_of r)) → MatchResult r (λ _. Accepted h c [] Answer.Done × Becomes h c [] h') (λ _. h' ≡ h) → (lent : Lent) → Step lent state h c [] (answer_of (passed_up r)) state h'
 step_by state h h' c (Ok x) takes stays first done lent = subst (λ (s : State). Step lent state h c [] Answer.Done s h') stays (accepted_step lent state h c takes Answer.Done [] h' (first lent) done.0 done.1)
 step_by state h h' c (Err f) takes stays first same lent = subst (λ (h'' : History). Step lent state h c [] (Answer.Refused (SheetFault.Register f)) state h'') (sym same) (refused_step lent state h c takes f (first lent))
-
-pub tallied : (r : Result (Unit {0}) RegisterFault) (before after : ℕ) → Counted r before after → Tallied (answer_of r) before after
-tallied (Ok x) before after h = h
-tallied (Err f) before after h = h
 
 -- what a call did, as the history has it
 done : (P Q : Type 0) (r : Result (Unit {0}) RegisterFault) (x x' : Catalogue) → (P → Q) → MatchResult r (λ _. P) (λ _. x' ≡ x) → MatchResult r (λ _. Q) (λ _. history_of x' ≡ history_of x)
@@ -44,19 +44,19 @@ tabled_history : (t : ℕ) (r : Table) (x x' : Catalogue) → Tabled t r x x' �
 tabled_history t r x x' e = λ i. record { subjects = e.subjects i; pairs = []; tables = e.tables i; entries = [] }
 
 module _ (x x' : Catalogue) (r : Result (Unit {0}) RegisterFault) where
-  pub user_step : (n c : ℕ) → First (user_checks (subjects_in x) n c) (fault_of r) → MatchResult r (λ _. Enrolled n (Subject.Person (mark_of c)) x x') (λ _. x' ≡ x) → (lent : Lent) → Step lent State.SettingUp (history_of x) (Command.User n c) [] (answer_of r) State.SettingUp (history_of x')
+  pub user_step : (n c : ℕ) → First (user_checks (subjects_in x) n c) (fault_of r) → MatchResult r (λ _. Enrolled n (Subject.Person (mark_of c)) x x') (λ _. x' ≡ x) → (lent : Lent) → Step lent State.SettingUp (history_of x) (Command.User n c) [] (answer_of (passed_up r)) State.SettingUp (history_of x')
   unfolding checks Accepted Becomes
   user_step n c first effect = step_by State.SettingUp (history_of x) (history_of x') (Command.User n c) r tt refl (λ lent. first) (done _ _ r x x' (λ e. (refl, (refl, enrolled_history n _ x x' e))) effect)
 
-  pub group_step : (n : ℕ) → First (group_checks (subjects_in x) n) (fault_of r) → MatchResult r (λ _. Enrolled n Subject.Group x x') (λ _. x' ≡ x) → (lent : Lent) → Step lent State.SettingUp (history_of x) (Command.Group n) [] (answer_of r) State.SettingUp (history_of x')
+  pub group_step : (n : ℕ) → First (group_checks (subjects_in x) n) (fault_of r) → MatchResult r (λ _. Enrolled n Subject.Group x x') (λ _. x' ≡ x) → (lent : Lent) → Step lent State.SettingUp (history_of x) (Command.Group n) [] (answer_of (passed_up r)) State.SettingUp (history_of x')
   unfolding checks Accepted Becomes
   group_step n first effect = step_by State.SettingUp (history_of x) (history_of x') (Command.Group n) r tt refl (λ lent. first) (done _ _ r x x' (λ e. (refl, (refl, enrolled_history n _ x x' e))) effect)
 
-  pub base_step : (i t : ℕ) → First (base_checks (subjects_in x) (tables_in x) i t) (fault_of r) → MatchResult r (λ _. Tabled t (record { owner = i; names = [] }) x x') (λ _. x' ≡ x) → (lent : Lent) → Step lent State.Open (history_of x) (Command.Base i t) [] (answer_of r) State.Open (history_of x')
+  pub base_step : (i t : ℕ) → First (base_checks (subjects_in x) (tables_in x) i t) (fault_of r) → MatchResult r (λ _. Tabled t (record { owner = i; names = [] }) x x') (λ _. x' ≡ x) → (lent : Lent) → Step lent State.Open (history_of x) (Command.Base i t) [] (answer_of (passed_up r)) State.Open (history_of x')
   unfolding checks Accepted Becomes
   base_step i t first effect = step_by State.Open (history_of x) (history_of x') (Command.Base i t) r tt refl (λ lent. first) (done _ _ r x x' (λ e. (refl, (refl, tabled_history t _ x x' e))) effect)
 
-  pub view_step : (i t : ℕ) (d : Named) → First (view_checks (subjects_in x) (tables_in x) i t (listed d)) (fault_of r) → MatchResult r (λ _. Tabled t (record { owner = i; names = listed d }) x x') (λ _. x' ≡ x) → (lent : Lent) → Step lent State.Open (history_of x) (Command.View i t d) [] (answer_of r) State.Open (history_of x')
+  pub view_step : (i t : ℕ) (d : Named) → First (view_checks (subjects_in x) (tables_in x) i t (listed d)) (fault_of r) → MatchResult r (λ _. Tabled t (record { owner = i; names = listed d }) x x') (λ _. x' ≡ x) → (lent : Lent) → Step lent State.Open (history_of x) (Command.View i t d) [] (answer_of (passed_up r)) State.Open (history_of x')
   unfolding checks Accepted Becomes
   view_step i t d first effect = step_by State.Open (history_of x) (history_of x') (Command.View i t d) r tt refl (λ lent. first) (done _ _ r x x' (λ e. (refl, (refl, tabled_history t _ x x' e))) effect)
 
@@ -101,6 +101,11 @@ known (Command.May u p t) e = absurd (false≢true e)
 by_rules : (state : State) (h : History) (c : Command) (a : Answer) (state' : State) (h' : History) → runs c ≡ true → ((lent : Lent) → Step lent state h c [] a state' h') → Answered state h c a state' h'
 by_rules state h c a state' h' e step = rw e step
 
+-- a command that is k, a word that runs, is answered by the rules for k
+pub answered : (state state' : State) (h h' : History) (c k : Command) (a' a : Answer) → c ≡ k → a' ≡ a → runs k ≡ true → ((lent : Lent) → Step lent state h k [] a state' h') → Answered state h c a' state' h'
+answered state state' h h' c k a' a is same e step =
+    subst (λ (word : Command). Answered state h word a' state' h') (sym is) (subst (λ (b : Answer). Answered state h k b state' h') (sym same) (by_rules state h k a state' h' e step))
+
 late : (state : State) (h : History) (c : Command) → runs c ≡ true → (Takes state c → ⊥) → Answered state h c (Answer.Refused SheetFault.OutOfTurn) state h
 late state h c e not = by_rules state h c _ state h e (λ lent. out_of_turn lent state h c not)
 
@@ -127,8 +132,8 @@ late_open h c e b v o = late State.Open h c e (not c (known c e) b v o)
     not c Known.base no_base no_view no_close = λ _. no_base _ _ refl
     not c Known.view no_base no_view no_close = λ _. no_view _ _ _ refl
 
-pub late_closed : (h : History) (c : Command) → runs c ≡ true → Answered State.Closed h c (Answer.Refused SheetFault.OutOfTurn) State.Closed h
-late_closed h c e = late State.Closed h c e (not c (known c e))
+pub late_closed : (state : State) (h : History) (c : Command) → state ≡ State.Closed → runs c ≡ true → Answered state h c (Answer.Refused SheetFault.OutOfTurn) State.Closed h
+late_closed state h c is e = subst (λ (s : State). Answered s h c (Answer.Refused SheetFault.OutOfTurn) State.Closed h) (sym is) (late State.Closed h c e (not c (known c e)))
   where
     not : (c : Command) → Known c → Takes State.Closed c → ⊥
     not c Known.user = λ never. never

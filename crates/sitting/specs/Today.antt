@@ -6,13 +6,13 @@ use Rattle.register.specs.Catalogue.{subjects_in, tables_in}
 use Rattle.rights.specs.declared.commands.Answer.{Answer}
 use Rattle.rights.specs.declared.commands.Command.{Command}
 use Rattle.rights.specs.declared.commands.State.{State}
-use Rattle.rights.specs.declared.faults.RegisterFault.{RegisterFault}
 use Rattle.rights.specs.declared.faults.SheetFault.{SheetFault}
 use Rattle.rights.specs.History.{History}
 use Rattle.rights.specs.Refusals.{Lent}
 use Rattle.rights.specs.Runs.{Step}
 use Rattle.sitting.specs.declared.words.Sitting.{Sitting}
 use Rattle.sitting.specs.Counts.{counted}
+use Rattle.sitting.specs.States.{setting_up_carried, open_carried, closed_carried}
 
 -- the words that run today
 abbrev pub runs : Command → Bool
@@ -38,18 +38,18 @@ state_of (Sitting.Closed s) = State.Closed
 
 -- how many commands it has carried out
 abbrev pub carried_in : Sitting → ℕ
-carried_in (Sitting.SettingUp s) = s.carried
-carried_in (Sitting.Open s) = s.carried
-carried_in (Sitting.Closed s) = s.carried
+carried_in (Sitting.SettingUp s) = setting_up_carried s
+carried_in (Sitting.Open s) = open_carried s
+carried_in (Sitting.Closed s) = closed_carried s
 
 -- the history that a catalogue stands for: no pair and no entry can be made yet
 abbrev pub history_of : Catalogue → History
 history_of c = record { subjects = subjects_in c; pairs = []; tables = tables_in c; entries = [] }
 
--- the answer to a command that was carried out, or refused by the register
-abbrev pub answer_of : Result (Unit {0}) RegisterFault → Answer
+-- the answer to a command that was carried out, or refused
+abbrev pub answer_of : Result (Unit {0}) SheetFault → Answer
 answer_of (Ok x) = Answer.Done
-answer_of (Err f) = Answer.Refused (SheetFault.Register f)
+answer_of (Err f) = Answer.Refused f
 
 -- an unknown word changes nothing
 pub record Unknown (state : State) (h : History) (a : Answer) (state' : State) (h' : History) : Type 0 where

@@ -6,125 +6,168 @@ ghost use Rattle.rights.specs.Checks.{First, fault_of};
 ghost use Rattle.rights.specs.Read.{mark_of};
 ghost use Rattle.rights.specs.Refusals.{user_checks, group_checks, open_checks, base_checks, view_checks};
 ghost use Rattle.sitting.specs.Counts.{counted, Counted, refusal};
+ghost use Rattle.sitting.specs.States.{setting_up_carried, open_carried, closed_carried};
 
 use register::Catalogue;
 use rights::{RegisterFault, Subject};
 
-// A sitting being set up, with the number of commands that it has carried out.
+// How many commands a sitting has carried out; it stops at the largest number of its type.
+#[derive(Clone, Copy)]
+struct Tally {
+    carried: u32,
+}
+
+/// A sitting being set up.
 #[derive(Drop)]
 pub struct SettingUp {
-    carried: u32,
+    tally: Tally,
 }
 
+/// A sitting that is open.
 #[derive(Drop)]
 pub struct Open {
-    carried: u32,
+    tally: Tally,
 }
 
+/// A sitting that is closed.
 #[derive(Drop)]
 pub struct Closed {
-    carried: u32,
+    tally: Tally,
+}
+
+impl Tally {
+    // One command more.
+    fn more(self) -> Tally
+        ensures { result.carried ≡ counted self.carried }
+    {
+        Tally {
+            carried: self.carried.saturating_add(1),
+        }
+    }
+
+    // Counts a call if it was carried out, and gives back what came of it.
+    fn note(&mut self, done: Result<(), RegisterFault>) -> Result<(), RegisterFault>
+        ensures same { result ≡ done }
+        ensures count { Counted done self.old.carried self.new.carried }
+    {
+        done?;
+        *self = self.more();
+        Ok(())
+    }
 }
 
 impl SettingUp {
+    /// A sitting that has carried out nothing yet.
     pub fn begin() -> SettingUp
-        ensures { result.carried ≡ 0 }
+        ensures { setting_up_carried result ≡ 0 }
     {
-        SettingUp { carried: 0 }
+        SettingUp {
+            tally: Tally { carried: 0 },
+        }
     }
 
-    // Registers person n, with the creator's mark where c is 1.
-    pub fn user(&mut self, catalogue: &mut Catalogue, n: u16, c: u16) -> Result<(), RegisterFault>
-        ensures verdict { First (user_checks (subjects_in catalogue.old) n c) (fault_of result) }
-        ensures effect { MatchResult result (λ _. Enrolled n (Subject.Person (mark_of c)) catalogue.old catalogue.new) (λ _. catalogue.new ≡ catalogue.old) }
-        ensures count { Counted result self.old.carried self.new.carried }
+    /// Registers person `number`, with the creator's mark where `mark` is 1.
+    pub fn user(
+        &mut self,
+        catalogue: &mut Catalogue,
+        number: u16,
+        mark: u16,
+    ) -> Result<(), RegisterFault>
+        ensures verdict { First
+            (user_checks (subjects_in catalogue.old) number mark)
+            (fault_of result) }
+        ensures effect { MatchResult result
+            (λ _. Enrolled number (Subject.Person (mark_of mark)) catalogue.old catalogue.new)
+            (λ _. catalogue.new ≡ catalogue.old) }
+        ensures count { Counted result (setting_up_carried self.old) (setting_up_carried self.new) }
     {
-        catalogue.user(n, c)?;
-        self.carried = self.carried.saturating_add(1);
-        Ok(())
+        self.tally.note(catalogue.user(number, mark))
     }
 
-    // Registers group n.
-    pub fn group(&mut self, catalogue: &mut Catalogue, n: u16) -> Result<(), RegisterFault>
-        ensures verdict { First (group_checks (subjects_in catalogue.old) n) (fault_of result) }
-        ensures effect { MatchResult result (λ _. Enrolled n Subject.Group catalogue.old catalogue.new) (λ _. catalogue.new ≡ catalogue.old) }
-        ensures count { Counted result self.old.carried self.new.carried }
+    /// Registers group `number`.
+    pub fn group(&mut self, catalogue: &mut Catalogue, number: u16) -> Result<(), RegisterFault>
+        ensures verdict { First
+            (group_checks (subjects_in catalogue.old) number)
+            (fault_of result) }
+        ensures effect { MatchResult result
+            (λ _. Enrolled number Subject.Group catalogue.old catalogue.new)
+            (λ _. catalogue.new ≡ catalogue.old) }
+        ensures count { Counted result (setting_up_carried self.old) (setting_up_carried self.new) }
     {
-        catalogue.group(n)?;
-        self.carried = self.carried.saturating_add(1);
-        Ok(())
+        self.tally.note(catalogue.group(number))
     }
 
-    // Opens the sitting, or gives it back with the refusal.
+    /// Opens the sitting, or gives it back with the refusal: without a person it cannot be opened.
+    #[tactic(auto, unfolding(rights::specs::Refusals::open_checks, rights::specs::Checks::First))]
     pub fn open(self, catalogue: &Catalogue) -> Result<Open, (SettingUp, RegisterFault)>
         ensures verdict { First (open_checks (subjects_in catalogue.now)) (refusal result) }
-        ensures count { MatchResult result (λ s. s.carried ≡ counted self.carried) (λ back. back.0.carried ≡ self.carried) }
+        ensures count { MatchResult result
+            (λ s. open_carried s ≡ counted (setting_up_carried self))
+            (λ back. setting_up_carried back.0 ≡ setting_up_carried self) }
     {
-        if let Err(fault) = may_open(catalogue) {
-            return Err((self, fault));
+        if !catalogue.has_person() {
+            return Err((self, RegisterFault::Nobody));
         }
-        let SettingUp { carried } = self;
-        Ok(Open {
-            carried: carried.saturating_add(1),
-        })
+        let tally = self.tally.more();
+        Ok(Open { tally })
     }
 }
 
 impl Open {
-    // Makes base table t with owner i.
-    pub fn base(&mut self, catalogue: &mut Catalogue, i: u16, t: u16) -> Result<(), RegisterFault>
-        ensures verdict { First (base_checks (subjects_in catalogue.old) (tables_in catalogue.old) i t) (fault_of result) }
-        ensures effect { MatchResult result (λ _. Tabled t (record { owner = i; names = [] }) catalogue.old catalogue.new) (λ _. catalogue.new ≡ catalogue.old) }
-        ensures count { Counted result self.old.carried self.new.carried }
+    /// Makes base table `table` with owner `issuer`.
+    pub fn base(
+        &mut self,
+        catalogue: &mut Catalogue,
+        issuer: u16,
+        table: u16,
+    ) -> Result<(), RegisterFault>
+        ensures verdict { First
+            (base_checks (subjects_in catalogue.old) (tables_in catalogue.old) issuer table)
+            (fault_of result) }
+        ensures effect { MatchResult result
+            (λ _. Tabled table (record { owner = issuer; names = [] }) catalogue.old catalogue.new)
+            (λ _. catalogue.new ≡ catalogue.old) }
+        ensures count { Counted result (open_carried self.old) (open_carried self.new) }
     {
-        catalogue.base(i, t)?;
-        self.carried = self.carried.saturating_add(1);
-        Ok(())
+        self.tally.note(catalogue.base(issuer, table))
     }
 
-    // Makes view t with owner i, naming these tables.
+    /// Makes view `table` with owner `issuer`, naming these tables.
     pub fn view(
         &mut self,
         catalogue: &mut Catalogue,
-        i: u16,
-        t: u16,
+        issuer: u16,
+        table: u16,
         names: &[u16],
     ) -> Result<(), RegisterFault>
-        ensures verdict { First (view_checks (subjects_in catalogue.old) (tables_in catalogue.old) i t names.now) (fault_of result) }
-        ensures effect { MatchResult result (λ _. Tabled t (record { owner = i; names = names.now }) catalogue.old catalogue.new) (λ _. catalogue.new ≡ catalogue.old) }
-        ensures count { Counted result self.old.carried self.new.carried }
+        ensures verdict { First
+            (view_checks (subjects_in catalogue.old) (tables_in catalogue.old)
+            issuer table names.now)
+            (fault_of result) }
+        ensures effect { MatchResult result
+            (λ _. Tabled table (record { owner = issuer; names = names.now })
+            catalogue.old catalogue.new)
+            (λ _. catalogue.new ≡ catalogue.old) }
+        ensures count { Counted result (open_carried self.old) (open_carried self.new) }
     {
-        catalogue.view(i, t, names)?;
-        self.carried = self.carried.saturating_add(1);
-        Ok(())
+        self.tally.note(catalogue.view(issuer, table, names))
     }
 
+    /// Closes the sitting.
     pub fn close(self) -> Closed
-        ensures { result.carried ≡ counted self.carried }
+        ensures { closed_carried result ≡ counted (open_carried self) }
     {
-        let Open { carried } = self;
         Closed {
-            carried: carried.saturating_add(1),
+            tally: self.tally.more(),
         }
     }
 }
 
 impl Closed {
-    // How many commands the sitting has carried out; it stops at the largest number of its type.
+    /// How many commands the sitting has carried out; it stops at the largest number of its type.
     pub fn carried(&self) -> u32
-        ensures { result ≡ self.now.carried }
+        ensures { result ≡ closed_carried self.now }
     {
-        let Closed { carried } = self;
-        *carried
+        self.tally.carried
     }
-}
-
-// A sitting without a person cannot be opened.
-fn may_open(catalogue: &Catalogue) -> Result<(), RegisterFault>
-    ensures { First (open_checks (subjects_in catalogue.now)) (fault_of result) }
-{
-    if !catalogue.has_person() {
-        return Err(RegisterFault::Nobody);
-    }
-    Ok(())
 }

@@ -1,11 +1,14 @@
 // A sitting in whichever state it is, and the call that carries out one command.
-ghost use Rattle.std.specs.Prelude.{◌≡◌, true, MatchResult};
+ghost use Rattle.std.specs.Prelude.{◌≡◌, ◌≢◌, true};
+ghost use Rattle.sitting.specs.Counts.{Counted};
+ghost use Rattle.sitting.specs.States.{setting_up_carried, open_carried};
 ghost use Rattle.sitting.specs.Today.{runs, state_of, carried_in, history_of, answer_of, Answered, Tallied};
 
 use crate::states::{Closed, Open, SettingUp};
 use register::Catalogue;
-use rights::{Answer, Command, RegisterFault, SheetFault, State};
+use rights::{Answer, Command, SheetFault, State};
 
+/// A sitting in whichever state it is.
 #[derive(Drop)]
 pub enum Sitting {
     SettingUp(SettingUp),
@@ -14,6 +17,7 @@ pub enum Sitting {
 }
 
 impl Sitting {
+    /// A sitting that has carried out nothing yet.
     pub fn begin() -> Sitting
         ensures state { state_of result ≡ State.SettingUp }
         ensures count { carried_in result ≡ 0 }
@@ -21,6 +25,7 @@ impl Sitting {
         Sitting::SettingUp(SettingUp::begin())
     }
 
+    /// The state that it is in.
     pub fn state(&self) -> State
         ensures { result ≡ state_of self.now }
     {
@@ -31,9 +36,10 @@ impl Sitting {
         }
     }
 
-    // Carries out or refuses one command, and gives the sitting back beside the answer.
+    /// Carries out or refuses one command, and gives the sitting back beside the answer.
     pub fn take(self, catalogue: &mut Catalogue, command: Command) -> (Sitting, Answer)
-        ensures answer { Answered (state_of self) (history_of catalogue.old) command result.1 (state_of result.0) (history_of catalogue.new) }
+        ensures answer { Answered (state_of self) (history_of catalogue.old) command
+            result.1 (state_of result.0) (history_of catalogue.new) }
         ensures count { Tallied result.1 (carried_in self) (carried_in result.0) }
     {
         if !is_known(&command) {
@@ -54,79 +60,92 @@ impl Sitting {
 fn is_known(command: &Command) -> bool
     ensures { result ≡ runs command.now }
 {
-    match command {
-        Command::User { n: _, c: _ } | Command::Group { n: _ } | Command::Open | Command::Close =>
-            true,
-        Command::Base { i: _, t: _ } | Command::View { i: _, t: _, d: _ } => true,
-        _ => false,
-    }
+    matches!(
+        command,
+        Command::User { .. }
+            | Command::Group { .. }
+            | Command::Open
+            | Command::Close
+            | Command::Base { .. }
+            | Command::View { .. }
+    )
 }
 
-// The register's fault passes up whole into the sheet's.
-fn carried_out(done: Result<(), RegisterFault>) -> Result<Answer, SheetFault>
-    ensures { MatchResult result (λ a. a ≡ answer_of done) (λ f. Answer.Refused f ≡ answer_of done) }
-{
-    done?;
-    Ok(Answer::Done)
-}
-
-fn answer_to(done: Result<(), RegisterFault>) -> Answer
+fn answer_to(done: Result<(), SheetFault>) -> Answer
     ensures { result ≡ answer_of done }
 {
-    match carried_out(done) {
-        Ok(answer) => answer,
-        Err(fault) => Answer::Refused(fault),
-    }
+    done.map_or_else(Answer::Refused, |_| Answer::Done)
 }
 
 // A command to a sitting that is being set up.
 fn prepare(mut sitting: SettingUp, catalogue: &mut Catalogue, command: Command) -> (Sitting, Answer)
     requires { runs command ≡ true }
-    ensures answer { Answered State.SettingUp (history_of catalogue.old) command result.1 (state_of result.0) (history_of catalogue.new) }
-    ensures count { Tallied result.1 sitting.carried (carried_in result.0) }
+    ensures answer { Answered State.SettingUp (history_of catalogue.old) command
+        result.1 (state_of result.0) (history_of catalogue.new) }
+    ensures count { Tallied result.1 (setting_up_carried sitting) (carried_in result.0) }
 {
     match command {
-        Command::User { n, c } => {
-            let done = sitting.user(catalogue, n, c);
-            (Sitting::SettingUp(sitting), answer_to(done))
-        }
-        Command::Group { n } => {
-            let done = sitting.group(catalogue, n);
-            (Sitting::SettingUp(sitting), answer_to(done))
-        }
         Command::Open => match sitting.open(catalogue) {
             Ok(open) => (Sitting::Open(open), Answer::Done),
             Err((back, fault)) => (
                 Sitting::SettingUp(back),
-                Answer::Refused(SheetFault::Register(fault)),
+                Answer::Refused(SheetFault::from(fault)),
             ),
         },
-        _ => (
-            Sitting::SettingUp(sitting),
-            Answer::Refused(SheetFault::OutOfTurn),
-        ),
+        word => {
+            let done = enrol(&mut sitting, catalogue, word);
+            (Sitting::SettingUp(sitting), answer_to(done))
+        }
+    }
+}
+
+// A command that leaves the sitting in its setting up. The register's fault passes up whole.
+fn enrol(
+    sitting: &mut SettingUp,
+    catalogue: &mut Catalogue,
+    command: Command,
+) -> Result<(), SheetFault>
+    requires known { runs command ≡ true }
+    requires stays { command ≢ Command.Open }
+    ensures answer { Answered State.SettingUp (history_of catalogue.old) command
+        (answer_of result) State.SettingUp (history_of catalogue.new) }
+    ensures count { Counted result (setting_up_carried sitting.old) (setting_up_carried sitting.new) }
+{
+    match command {
+        Command::User { n, c } => Ok(sitting.user(catalogue, n, c)?),
+        Command::Group { n } => Ok(sitting.group(catalogue, n)?),
+        _ => Err(SheetFault::OutOfTurn),
     }
 }
 
 // A command to an open sitting.
 fn work(mut sitting: Open, catalogue: &mut Catalogue, command: Command) -> (Sitting, Answer)
     requires { runs command ≡ true }
-    ensures answer { Answered State.Open (history_of catalogue.old) command result.1 (state_of result.0) (history_of catalogue.new) }
-    ensures count { Tallied result.1 sitting.carried (carried_in result.0) }
+    ensures answer { Answered State.Open (history_of catalogue.old) command
+        result.1 (state_of result.0) (history_of catalogue.new) }
+    ensures count { Tallied result.1 (open_carried sitting) (carried_in result.0) }
 {
     match command {
-        Command::Base { i, t } => {
-            let done = sitting.base(catalogue, i, t);
-            (Sitting::Open(sitting), answer_to(done))
-        }
-        Command::View { i, t, d } => {
-            let done = sitting.view(catalogue, i, t, d.listed());
-            (Sitting::Open(sitting), answer_to(done))
-        }
         Command::Close => (Sitting::Closed(sitting.close()), Answer::Done),
-        _ => (
-            Sitting::Open(sitting),
-            Answer::Refused(SheetFault::OutOfTurn),
-        ),
+        word => {
+            let done = make(&mut sitting, catalogue, word);
+            (Sitting::Open(sitting), answer_to(done))
+        }
+    }
+}
+
+// A command that leaves the sitting open. The register's fault passes up whole.
+// No twin of `enrol`: the states are two types, and each has words of its own.
+fn make(sitting: &mut Open, catalogue: &mut Catalogue, command: Command) -> Result<(), SheetFault>
+    requires known { runs command ≡ true }
+    requires stays { command ≢ Command.Close }
+    ensures answer { Answered State.Open (history_of catalogue.old) command
+        (answer_of result) State.Open (history_of catalogue.new) }
+    ensures count { Counted result (open_carried sitting.old) (open_carried sitting.new) }
+{
+    match command {
+        Command::Base { i, t } => Ok(sitting.base(catalogue, i, t)?),
+        Command::View { i, t, d } => Ok(sitting.view(catalogue, i, t, d.listed())?),
+        _ => Err(SheetFault::OutOfTurn),
     }
 }

@@ -1,8 +1,8 @@
 // What the catalogue tells of a number. A number out of range has nothing under it.
-ghost use Rattle.std.specs.Prelude.{◌≡◌, ℕ, IfSome, None, Decides, MatchOption, slice_index_or};
+ghost use Rattle.std.specs.Prelude.{◌≡◌, ◌≤◌, ◌↔◌, ℕ, IfSome, IsTrue, None, slice_index_or};
 ghost use Rattle.std.specs.Option.{option_map};
-ghost use Rattle.register.specs.Catalogue.{subjects_in, tables_in};
-ghost use Rattle.register.specs.Rows.{table_of};
+ghost use Rattle.register.specs.Catalogue.{subjects_in, tables_in, record_at};
+ghost use Rattle.register.specs.Rows.{table_of, BlankPast};
 ghost use Rattle.rights.specs.Subjects.{IsPerson, IsCreator};
 ghost use Rattle.rights.specs.Tables.{Stands, Level};
 
@@ -10,83 +10,58 @@ use crate::catalogue::Catalogue;
 use rights::{Subject, TableRecord};
 
 impl Catalogue {
-    // What is registered under n.
-    pub fn subject(&self, n: u16) -> Option<Subject>
-        ensures { result ≡ subjects_in self.now n }
+    /// What is registered under `number`.
+    pub fn subject(&self, number: u16) -> Option<Subject>
+        ensures { result ≡ subjects_in self.now number }
     {
-        if n < 256 {
-            self.subjects[n as usize]
-        } else {
-            None
-        }
+        entry_at(&self.subjects, number)
     }
 
-    // What stands under t.
-    pub fn table(&self, t: u16) -> Option<TableRecord>
-        ensures row { result ≡ slice_index_or self.now.tables t None }
-        ensures value { option_map table_of result ≡ tables_in self.now t }
-        ensures level { IfSome result (λ x. Level (tables_in self.now) t x.level) }
+    /// What stands under `number`.
+    pub fn table(&self, number: u16) -> Option<TableRecord>
+        ensures row { result ≡ record_at self.now number }
+        ensures value { option_map table_of result ≡ tables_in self.now number }
+        ensures level { IfSome result (λ x. Level (tables_in self.now) number x.level) }
+        ensures few { IfSome result (λ x. x.count ≤ 8) }
+        ensures blank { IfSome result (λ x. BlankPast x) }
     {
-        self.row(t)
+        entry_at(&self.tables, number)
     }
 
-    fn row(&self, t: u16) -> Option<TableRecord>
-        ensures row { result ≡ slice_index_or self.now.tables t None }
-        ensures level { IfSome result (λ x. Level (tables_in self.now) t x.level) }
+    /// Whether `number` is a person.
+    pub fn is_person(&self, number: u16) -> bool
+        ensures { IsTrue result ↔ IsPerson (subjects_in self.now) number }
     {
-        if t < 128 {
-            self.tables[t as usize]
-        } else {
-            None
-        }
+        matches!(self.subject(number), Some(Subject::Person { .. }))
     }
 
-    pub fn is_person(&self, n: u16) -> bool
-        ensures { Decides result (IsPerson (subjects_in self.now) n) }
+    /// Whether `number` is a person with the creator's mark.
+    pub fn is_creator(&self, number: u16) -> bool
+        ensures { IsTrue result ↔ IsCreator (subjects_in self.now) number }
     {
-        match self.subject(n) {
-            Some(Subject::Person { creator: _ }) => true,
-            Some(Subject::Group) => false,
-            None => false,
-        }
+        self.subject(number) == Some(Subject::Person { creator: true })
     }
 
-    // A person with the creator's mark.
-    pub fn is_creator(&self, n: u16) -> bool
-        ensures { Decides result (IsCreator (subjects_in self.now) n) }
+    /// Whether a table stands under `number`.
+    pub fn stands(&self, number: u16) -> bool
+        ensures { IsTrue result ↔ Stands (tables_in self.now) number }
     {
-        match self.subject(n) {
-            Some(Subject::Person { creator }) => creator,
-            Some(Subject::Group) => false,
-            None => false,
-        }
+        self.table(number).is_some()
     }
 
-    pub fn stands(&self, t: u16) -> bool
-        ensures { Decides result (Stands (tables_in self.now) t) }
-    {
-        self.table(t).is_some()
-    }
-
-    // Whether anybody is registered as a person.
+    /// Whether anybody is registered as a person.
     pub fn has_person(&self) -> bool
-        ensures { Decides result ((n : ℕ) × IsPerson (subjects_in self.now) n) }
+        ensures { IsTrue result ↔ ((n : ℕ) × IsPerson (subjects_in self.now) n) }
     {
-        match self.first_person() {
-            Some(_) => true,
-            None => false,
-        }
+        self.subjects
+            .iter()
+            .any(|subject| matches!(subject, Some(Subject::Person { .. })))
     }
+}
 
-    // The person with the lowest number.
-    fn first_person(&self) -> Option<u16>
-        ensures { MatchOption result ((n : ℕ) → IsPerson (subjects_in self.now) n → ⊥) (λ n. IsPerson (subjects_in self.now) n) }
-    {
-        for n in 0..256 {
-            if self.is_person(n) {
-                return Some(n);
-            }
-        }
-        None
-    }
+// What stands in row n of a table.
+fn entry_at<T: Copy>(rows: &[Option<T>], n: u16) -> Option<T>
+    ensures { result ≡ slice_index_or rows.now n None }
+{
+    rows.get(usize::from(n)).copied().flatten()
 }

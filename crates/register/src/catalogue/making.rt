@@ -1,8 +1,8 @@
-// Making base tables and views.
-ghost use Rattle.std.specs.Prelude.{◌≡◌, ◌≤◌, true, [], length, IfOk, None, Decides, MatchResult, slice_index_or};
+// Making base tables and views. Issuer and table stay two plain numbers, as a command carries them.
+ghost use Rattle.std.specs.Prelude.{◌≡◌, ◌≤◌, ◌↔◌, true, [], length, IsTrue, IfOk, OnOk, MatchResult};
 ghost use Rattle.std.specs.List.{AllByRecursion};
-ghost use Rattle.register.specs.Catalogue.{subjects_in, tables_in, Fitting, Tabled};
-ghost use Rattle.register.specs.Rows.{table_of, names_of, level_at, level_over, rise};
+ghost use Rattle.register.specs.Catalogue.{subjects_in, tables_in, record_at, making_checks, Allowed, Fitting, Tabled};
+ghost use Rattle.register.specs.Rows.{table_of, names_of, level_at, level_over, rise, BlankPast};
 ghost use Rattle.rights.specs.Checks.{First, fault_of};
 ghost use Rattle.rights.specs.Numbers.{TableNumber};
 ghost use Rattle.rights.specs.Refusals.{StrangeIssuer, NoMark, WellMade, base_checks, view_checks};
@@ -12,109 +12,93 @@ use crate::catalogue::Catalogue;
 use rights::{RegisterFault, TableRecord};
 
 impl Catalogue {
-    // Makes base table t with owner i.
-    pub fn base(&mut self, i: u16, t: u16) -> Result<(), RegisterFault>
-        ensures verdict { First (base_checks (subjects_in self.old) (tables_in self.old) i t) (fault_of result) }
-        ensures effect { MatchResult result (λ _. Tabled t (record { owner = i; names = [] }) self.old self.new) (λ _. self.new ≡ self.old) }
+    /// Makes base table `table` with owner `issuer`.
+    #[tactic(auto, unfolding(rights::specs::Refusals::view_checks, rights::specs::Refusals::base_checks, rights::specs::Checks::First))]
+    pub fn base(&mut self, issuer: u16, table: u16) -> Result<(), RegisterFault>
+        ensures verdict { First
+            (base_checks (subjects_in self.old) (tables_in self.old) issuer table)
+            (fault_of result) }
+        ensures effect { MatchResult result
+            (λ _. Tabled table (record { owner = issuer; names = [] }) self.old self.new)
+            (λ _. self.new ≡ self.old) }
     {
-        let table = self.new_base(i, t)?;
-        self.add(t, table);
+        let owner = self.may_make(issuer, table, &[])?;
+        self.add(table, record_of(owner, 0, &[]));
         Ok(())
     }
 
-    // Makes view t with owner i, naming these tables.
-    pub fn view(&mut self, i: u16, t: u16, names: &[u16]) -> Result<(), RegisterFault>
-        ensures verdict { First (view_checks (subjects_in self.old) (tables_in self.old) i t names.now) (fault_of result) }
-        ensures effect { MatchResult result (λ _. Tabled t (record { owner = i; names = names.now }) self.old self.new) (λ _. self.new ≡ self.old) }
+    /// Makes view `table` with owner `issuer`, naming these tables.
+    #[tactic(auto, unfolding(rights::specs::Refusals::view_checks, rights::specs::Refusals::WellMade, rights::specs::Checks::First))]
+    pub fn view(&mut self, issuer: u16, table: u16, names: &[u16]) -> Result<(), RegisterFault>
+        ensures verdict { First
+            (view_checks (subjects_in self.old) (tables_in self.old) issuer table names.now)
+            (fault_of result) }
+        ensures effect { MatchResult result
+            (λ _. Tabled table (record { owner = issuer; names = names.now }) self.old self.new)
+            (λ _. self.new ≡ self.old) }
     {
-        let table = self.new_view(i, t, names)?;
-        self.add(t, table);
+        let owner = self.may_make(issuer, table, names)?;
+        if !self.well_made(names) {
+            return Err(RegisterFault::MakeUp);
+        }
+        let level = self.level_over(names);
+        self.add(table, record_of(owner, level, names));
         Ok(())
     }
 
-    // The record of a base table that may be put under t.
-    fn new_base(&self, i: u16, t: u16) -> Result<TableRecord, RegisterFault>
-        ensures verdict { First (base_checks (subjects_in self.now) (tables_in self.now) i t) (fault_of result) }
-        ensures table { IfOk result (λ x. table_of x ≡ record { owner = i; names = [] }) }
-        ensures fitting { IfOk result (λ x. Fitting t x self.now) }
+    // The issuer as a new table's owner, or what base tables and views are refused alike.
+    #[tactic(auto, unfolding(rights::specs::Refusals::view_checks, rights::specs::Checks::First))]
+    fn may_make(&self, issuer: u16, table: u16, names: &[u16]) -> Result<u8, RegisterFault>
+        ensures verdict { First
+            (making_checks (subjects_in self.now) (tables_in self.now) issuer table names.now)
+            (fault_of result) }
+        ensures owner { IfOk result (λ x. x ≡ issuer) }
+        ensures allowed { OnOk result (Allowed issuer table names.now self.now) }
     {
-        if i > 255 || t > 127 {
+        let owner = u8::try_from(issuer).map_err(|_| RegisterFault::BadNumber)?;
+        if table > 127 || !all_tables(names) {
             return Err(RegisterFault::BadNumber);
         }
-        if self.is_strange(i) {
-            return Err(RegisterFault::Stranger);
-        }
-        if self.lacks_mark(i) {
-            return Err(RegisterFault::NotTheirs);
-        }
-        if self.stands(t) {
-            return Err(RegisterFault::Taken);
-        }
-        Ok(TableRecord {
-            owner: i as u8,
-            level: 0,
-            count: 0,
-            names: [0; 8],
-        })
-    }
-
-    // The record of a view that may be put under t.
-    fn new_view(&self, i: u16, t: u16, names: &[u16]) -> Result<TableRecord, RegisterFault>
-        ensures verdict { First (view_checks (subjects_in self.now) (tables_in self.now) i t names.now) (fault_of result) }
-        ensures table { IfOk result (λ x. table_of x ≡ record { owner = i; names = names.now }) }
-        ensures fitting { IfOk result (λ x. Fitting t x self.now) }
-    {
-        if i > 255 || t > 127 || !all_tables(names) {
-            return Err(RegisterFault::BadNumber);
-        }
-        if self.is_strange(i) {
+        if self.is_strange(issuer) {
             return Err(RegisterFault::Stranger);
         }
         if !self.all_stand(names) {
             return Err(RegisterFault::NoTable);
         }
-        if self.lacks_mark(i) {
+        if self.lacks_mark(issuer) {
             return Err(RegisterFault::NotTheirs);
         }
-        if self.stands(t) {
+        if self.stands(table) {
             return Err(RegisterFault::Taken);
         }
-        if !self.well_made(names) {
-            return Err(RegisterFault::MakeUp);
-        }
-        let level = self.level_over(names);
-        Ok(view_record(i as u8, level, names))
+        Ok(owner)
     }
 
     // An issuer other than the office who is no registered person.
-    fn is_strange(&self, i: u16) -> bool
-        ensures { Decides result (StrangeIssuer (subjects_in self.now) i) }
+    fn is_strange(&self, issuer: u16) -> bool
+        ensures { IsTrue result ↔ StrangeIssuer (subjects_in self.now) issuer }
     {
-        i != 0 && !self.is_person(i)
+        issuer != 0 && !self.is_person(issuer)
     }
 
     // An issuer who may make no table: the office, or whoever lacks the creator's mark.
-    fn lacks_mark(&self, i: u16) -> bool
-        ensures { Decides result (NoMark (subjects_in self.now) i) }
+    fn lacks_mark(&self, issuer: u16) -> bool
+        ensures { IsTrue result ↔ NoMark (subjects_in self.now) issuer }
     {
-        i == 0 || !self.is_creator(i)
+        issuer == 0 || !self.is_creator(issuer)
     }
 
     fn all_stand(&self, names: &[u16]) -> bool
-        ensures { Decides result (AllByRecursion (Stands (tables_in self.now)) names.now) }
+        ensures { IsTrue result ↔ AllByRecursion (Stands (tables_in self.now)) names.now }
     {
-        for d in names {
-            if !self.stands(*d) {
-                return false;
-            }
-        }
-        true
+        names.iter().all(|d| self.stands(*d))
     }
 
     // Whether a view may name these tables, which all stand.
+    #[tactic(auto, unfolding(rights::specs::Refusals::WellMade))]
     fn well_made(&self, names: &[u16]) -> bool
         requires { AllByRecursion (Stands (tables_in self.now)) names.now }
-        ensures { Decides result (WellMade (tables_in self.now) names.now) }
+        ensures { IsTrue result ↔ WellMade (tables_in self.now) names.now }
     {
         if names.is_empty() || names.len() > 8 {
             return false;
@@ -130,22 +114,19 @@ impl Catalogue {
         ensures value { result ≡ level_over self.now.tables names.now }
         ensures low { result ≤ 8 }
     {
-        let mut level: u8 = 0;
-        for d in names {
-            level = level.max(self.level_at(*d) + 1);
-        }
-        level
+        names
+            .iter()
+            .map(|d| self.level_at(*d) + 1)
+            .max()
+            .unwrap_or(0)
     }
 
-    // The level of table t, 0 where none stands.
-    fn level_at(&self, t: u16) -> u8
-        ensures value { result ≡ level_at (slice_index_or self.now.tables t None) }
+    // The level of a table, 0 where none stands.
+    fn level_at(&self, number: u16) -> u8
+        ensures value { result ≡ level_at (record_at self.now number) }
         ensures low { result ≤ 7 }
     {
-        match self.table(t) {
-            Some(record) => record.level,
-            None => 0,
-        }
+        self.table(number).map_or(0, |table| table.level)
     }
 
     // Puts a table under a number where none stands.
@@ -153,44 +134,37 @@ impl Catalogue {
         requires { Fitting t table self.old }
         ensures { Tabled t (table_of table) self.old self.new }
     {
-        self.tables[t as usize] = Some(table);
+        self.tables[usize::from(t)] = Some(table);
     }
 }
 
+// No twin of `all_stand`: what they have in common is `all`.
 fn all_tables(names: &[u16]) -> bool
-    ensures { Decides result (AllByRecursion TableNumber names.now) }
+    ensures { IsTrue result ↔ AllByRecursion TableNumber names.now }
 {
-    for d in names {
-        if *d > 127 {
-            return false;
-        }
-    }
-    true
+    names.iter().all(|d| *d <= 127)
 }
 
 fn rises(names: &[u16]) -> bool
     ensures { result ≡ rise names.now }
 {
-    for k in 1..names.len() {
-        if names[k - 1] >= names[k] {
-            return false;
-        }
-    }
-    true
+    names.is_sorted_by(|a, b| *a < *b)
 }
 
-// The record of a view that names these tables.
-fn view_record(owner: u8, level: u8, names: &[u16]) -> TableRecord
+// The record of a table that names these tables.
+fn record_of(owner: u8, level: u8, names: &[u16]) -> TableRecord
     requires few { length names.now ≤ 8 }
     requires tables { AllByRecursion TableNumber names.now }
     ensures names { names_of result ≡ names.now }
     ensures count { result.count ≤ 8 }
+    ensures blank { BlankPast result }
     ensures owner { result.owner ≡ owner }
     ensures level { result.level ≡ level }
 {
+    // a record is Copy, so its list is an array
     let mut list = [0; 8];
     for (k, d) in names.iter().enumerate() {
-        list[k] = *d as u8;
+        list[k] = u8::try_from(*d).unwrap();
     }
     TableRecord {
         owner,

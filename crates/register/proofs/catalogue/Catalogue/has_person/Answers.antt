@@ -1,5 +1,9 @@
-use Rattle.std.proofs.lemmas.Bool.{false≢true}
+use Rattle.std.proofs.Common.{rules, tests}
+use Rattle.std.proofs.lemmas.Iterator.{YieldsList-from_slice}
+use Rattle.std.proofs.lemmas.Iterator.Search.{any_from_yields_List}
+use Rattle.register.specs.Rows.{is_person}
+use Rattle.register.proofs.Persons.{person_listed}
 use Rattle.register.proofs.catalogue.Catalogue.has_person.Goals as goal
 
-pub returns-in-None : goal.returns-in-None
-returns-in-None c = (λ e. absurd (false≢true e), λ someone. absurd (c.in-None.ensures someone.0 someone.1))
+pub returns : goal.returns
+returns c = person_listed c.args.self.now.subjects c.any.result (any_from_yields_List is_person _ _ _ c.any.ensures.ran (YieldsList-from_slice c.args.self.now.subjects cc) (λ x b q k. search (rules, tests)))

@@ -1,15 +1,10 @@
-use Rattle.std.proofs.Common.{◌≡◌, length, sym, ◌∙◌, ⊎_elim, arith}
-use Rattle.std.proofs.lemmas.Bool.{false≢true, leb-true, le-leb, eqb-true, eqb-false}
+use Rattle.std.proofs.Common.{◌≡◌, length, sym, ◌∙◌, arith}
+use Rattle.std.proofs.lemmas.Bool.{false≢true, leb-true, le-leb, eqb-false}
 use Rattle.rights.specs.Refusals.{WellMade}
 use Rattle.register.specs.Rows.{level_over}
 use Rattle.register.proofs.Levels.{stand_from, level_over_is, over_only, rise_decides}
 use Rattle.register.proofs.Whole.{sound}
 use Rattle.register.proofs.catalogue.Catalogue.well_made.Goals as goal
-
-pub returns-then-is_empty : goal.returns-then-is_empty
-unfolding WellMade
-returns-then-is_empty c =
-    (λ e. absurd (false≢true e), λ made. absurd (⊎_elim (λ empty. omega (arith, made.0, eqb-true _ 0 (sym c.is_empty.ensures ∙ empty))) (λ long. omega (arith, made.1, long.1)) c.then-is_empty.either))
 
 pub returns-then-not-rises : goal.returns-then-not-rises
 unfolding WellMade

@@ -1,16 +1,7 @@
-use Rattle.std.proofs.Common.{sym, ap, subst}
-use Rattle.rights.specs.declared.commands.Answer.{Answer}
-use Rattle.rights.specs.declared.commands.State.{State}
-use Rattle.rights.specs.declared.faults.SheetFault.{SheetFault}
-use Rattle.sitting.specs.declared.words.Sitting.{Sitting}
-use Rattle.sitting.specs.Today.{history_of, carried_in, state_of, Answered}
+use Rattle.std.proofs.Common.{sym, ap}
+use Rattle.sitting.specs.Today.{state_of}
 use Rattle.sitting.proofs.Answering.{late_closed}
 use Rattle.sitting.proofs.words.Sitting.take.Goals as goal
 
-pub returns-in-Closed : goal.returns-in-Closed
-returns-in-Closed c =
-    let h = history_of c.args.catalogue.now in
-    record {
-      answer = subst (λ (s : Sitting). Answered (state_of s) h c.args.command (Answer.Refused SheetFault.OutOfTurn) State.Closed h) (sym c.in-Closed.is) (late_closed h c.args.command (sym c.if-not-is_known.ensures));
-      count = sym (ap carried_in c.in-Closed.is);
-    }
+pub returns-in-Closed-clause-answer : goal.returns-in-Closed-clause-answer
+returns-in-Closed-clause-answer c = late_closed _ _ _ (ap state_of c.in-Closed.is) (sym c.if-not-is_known.ensures)
