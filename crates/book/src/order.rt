@@ -1,9 +1,10 @@
 // The stored list of the thirty-two rights by bit number, and which entries a book may hold.
-ghost use Rattle.std.specs.Prelude.{◌≡◌, IsTrue, ◌↔◌};
+ghost use Rattle.std.specs.Prelude.{◌≡◌, MatchResult};
+ghost use Rattle.rights.specs.declared.faults.BookFault.TheVariants.{BadNumber};
 ghost use Rattle.rights.specs.Bits.{bit};
 ghost use Rattle.rights.specs.Entries.{Proper};
 
-use rights::{Entry, Kind, Privilege, Rank, Right, Sign, Strength};
+use rights::{BookFault, Entry, Kind, Privilege, Rank, Right, Sign, Strength};
 
 // Row k is the right with bit number k. That all thirty-two are stored is a form of this project.
 pub(crate) const ROWS: [Right; 32] = [
@@ -48,9 +49,14 @@ pub(crate) fn bit_number(right: Right) -> usize
     ROWS.partition_point(|row| *row < right)
 }
 
-// Every number of the entry is in its range.
-pub(crate) fn proper(e: &Entry) -> bool
-    ensures { IsTrue result ↔ (Proper e.now) }
+// Refuses an entry that has a number out of its range.
+pub(crate) fn in_range(e: &Entry) -> Result<(), BookFault>
+    ensures { MatchResult result (λ _. Proper e.now)
+        (λ fault. (fault ≡ BadNumber) × (Proper e.now → ⊥)) }
 {
-    e.subject != 0 && e.table <= 127 && e.grantor != 0
+    if e.subject != 0 && e.table <= 127 && e.grantor != 0 {
+        Ok(())
+    } else {
+        Err(BookFault::BadNumber)
+    }
 }

@@ -22,6 +22,7 @@ fn main(rt: HostRuntime) -> io::Result<()> {
         grantor: 0,
         right: Right::Access(Privilege::Select, Sign::Plus, Strength::Weak),
     };
+    // the lists that the books borrow, as a host lends them
     let mut records = [blank; 24];
     let mut cells = [Cell {
         subject: 0,

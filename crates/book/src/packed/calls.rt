@@ -6,7 +6,7 @@ ghost use Rattle.book.specs.Packing.{packed, most_packed, list_packed, SameRest,
 
 use crate::keyed::Cell;
 use crate::meaning::{Book, LIMIT};
-use crate::order::proper;
+use crate::order::in_range;
 use crate::packed::Cells;
 use rights::{BookFault, Entry};
 use rising::{Front, ceiling, check_room};
@@ -58,9 +58,7 @@ impl Book for Cells<'_> {
     }
 
     fn put(&mut self, e: Entry) -> Result<(), BookFault> {
-        if !proper(&e) {
-            return Err(BookFault::BadNumber);
-        }
+        in_range(&e)?;
         match self.cell_of(e) {
             Ok(i) => self.put_into(i, e),
             Err(i) => self.put_new(i, e),
@@ -68,9 +66,7 @@ impl Book for Cells<'_> {
     }
 
     fn take(&mut self, e: Entry) -> Result<(), BookFault> {
-        if !proper(&e) {
-            return Err(BookFault::BadNumber);
-        }
+        in_range(&e)?;
         let i = self.cell_of(e).ok().ok_or(BookFault::Absent)?;
         self.take_from(i, e)
     }

@@ -6,7 +6,7 @@ ghost use Rattle.book.specs.Places.{Finding};
 ghost use Rattle.book.specs.Standing.{standing, most_standing, list_standing, SameRest, plain_laws};
 
 use crate::meaning::{Book, LIMIT};
-use crate::order::proper;
+use crate::order::in_range;
 use crate::plain::Plain;
 use rights::{BookFault, Entry};
 use rising::{Front, ceiling, check_room};
@@ -65,9 +65,7 @@ impl Book for Plain<'_> {
     }
 
     fn put(&mut self, e: Entry) -> Result<(), BookFault> {
-        if !proper(&e) {
-            return Err(BookFault::BadNumber);
-        }
+        in_range(&e)?;
         let k = self.place_of(e).err().ok_or(BookFault::Taken)?;
         if self.front.len() == self.ceiling {
             return Err(BookFault::Full);
@@ -76,9 +74,7 @@ impl Book for Plain<'_> {
     }
 
     fn take(&mut self, e: Entry) -> Result<(), BookFault> {
-        if !proper(&e) {
-            return Err(BookFault::BadNumber);
-        }
+        in_range(&e)?;
         let k = self.place_of(e).ok().ok_or(BookFault::Absent)?;
         self.front.remove(k);
         Ok(())
