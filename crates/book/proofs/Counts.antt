@@ -5,13 +5,13 @@ use Rattle.std.specs.List.{slice_get, AllByRecursion}
 use Rattle.std.proofs.lemmas.Option.{slice_get_within, slice_get-get_or, get_or_from_slice_get, none-some}
 use Rattle.std.proofs.lemmas.List.{append-nil, length-append, length-set, length-take-le, length-drop, get_or-append_right, take_all, take_more, drop_more, take-append-drop}
 use Rattle.std.proofs.lemmas.Bool.{eqb-true, eq-eqb, ltb-true, lt-ltb, and_parts, and_from}
-use Rattle.rights.specs.Entries.{sound}
+use Rattle.rights.specs.Entries.{Proper, sound}
 use Rattle.rights.specs.Lists.{Rising}
 use Rattle.rights.proofs.Order.{sound_from, sound_proper}
 use Rattle.book.specs.declared.keyed.Cell.{Cell}
 use Rattle.book.specs.declared.packed.Cells.{Cells}
 use Rattle.rising.specs.declared.fronts.Front.{Front}
-use Rattle.book.specs.Cells.{unpacked, held, KeyBefore, climbs, numbered, recounted, counted_on, Orderly}
+use Rattle.book.specs.Cells.{unpacked, held, KeyBefore, climbs, numbered, recounted, counted_on}
 use Rattle.book.specs.Packing.{cells}
 use Rattle.rising.specs.Fronts.{stored, whole, SameRest, Refilled}
 use Rattle.book.proofs.Heaps.{held_append, held_rises, decides_climbs}
@@ -181,6 +181,13 @@ none_last [] is = refl
 none_last (c ∷ cs) is = absurd (none-some (get_or (c ∷ cs) (length cs) c) (sym is ∙ ap (slice_get (c ∷ cs)) (omega arith) ∙ slice_get-get_or (c ∷ cs) (length cs) c (omega arith)))
 
 -- ---- orderly lists
+
+-- a list of cells that a book with that ceiling can have
+pub record Orderly (cs : List Cell) (most : ℕ) : Type 0 where
+  pub climbing : Rising KeyBefore cs
+  pub proper : AllByRecursion Proper (held cs)
+  pub filled : AllByRecursion (λ c. 0 < length (unpacked c)) cs
+  pub few : length (held cs) ≤ most
 
 pub orderly_from : (cs : List Cell) (most : ℕ) → sound (held cs) ≡ true → climbs cs ≡ true → numbered 0 cs ≡ true → length (held cs) ≤ most → Orderly cs most
 orderly_from cs most rises keys sums few = record {

@@ -15,11 +15,11 @@ use Rattle.book.specs.declared.packed.Cells.{Cells}
 use Rattle.rising.specs.declared.fronts.Front.{Front}
 use Rattle.rising.proofs.Filled.{front_first}
 use Rattle.book.specs.declared.keyed.Cell.{Cell}
-use Rattle.book.specs.Cells.{has, unpacked, held, numbered, counted_on, turned, key_cell, CellFinding, Orderly}
+use Rattle.book.specs.Cells.{has, unpacked, held, numbered, counted_on, turned, key_cell, CellFinding}
 use Rattle.book.specs.Effects.{with_entry, without_entry}
 use Rattle.rising.specs.Fronts.{stored, whole, SameRest, Refilled}
 use Rattle.book.specs.Packing.{cells, packed}
-use Rattle.book.proofs.Counts.{no_cell, orderly_book, few_cells, KeptCells, few_held, counts_stand, changed_holds, changed_rest, kept_cells}
+use Rattle.book.proofs.Counts.{Orderly, no_cell, orderly_book, few_cells, KeptCells, few_held, counts_stand, changed_holds, changed_rest, kept_cells}
 use Rattle.book.proofs.Refused.{of_some, of_ok}
 use Rattle.book.proofs.Turns as turn
 use Rattle.book.proofs.Unpacked.{KeyOf}

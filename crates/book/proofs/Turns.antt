@@ -9,9 +9,9 @@ use Rattle.rights.specs.Bits.{bit}
 use Rattle.rights.specs.Entries.{Proper, RisingEntries}
 use Rattle.rights.specs.Lists.{In, Rising}
 use Rattle.book.specs.declared.keyed.Cell.{Cell}
-use Rattle.book.specs.Cells.{has, unpacked, held, KeyBefore, turned, key_cell, CellFinding, Orderly}
+use Rattle.book.specs.Cells.{has, unpacked, held, KeyBefore, turned, key_cell, CellFinding}
 use Rattle.book.specs.Effects.{with_entry, without_entry}
-use Rattle.book.proofs.Counts.{held_parts}
+use Rattle.book.proofs.Counts.{Orderly, held_parts}
 use Rattle.book.proofs.Heaps.{key_transitive, held_append, held_rises, put_middle, take_middle, not_below, not_after, in_append, append_in}
 use Rattle.book.proofs.Members.{all_with, all_without, length_with, length_without}
 use Rattle.book.proofs.Unpacked.{KeyOf, in_unpacked, holds_set, in_turned, turned_on, turned_off, turned_rest, empty_map, none_set, unpacked_rises}

@@ -1,9 +1,9 @@
 -- Where an element stands or belongs in a list.
 -- Parts: the place that parts what lies below from the rest.
--- Stands: an entry stands at a place. Fitting: it may be put there. Finding: where it stands, or its place.
+-- Stands: an entry stands at a place. Finding: where it stands, or its place.
 use Rattle.std.specs.Prelude.{◌≡◌, ℕ, ◌<◌, ◌≤◌, List, length, Ok, Err, Result, slice_index_or}
 use Rattle.rights.specs.declared.entries.Entry.{Entry}
-use Rattle.rights.specs.Entries.{Before, Proper}
+use Rattle.rights.specs.Entries.{Before}
 use Rattle.rights.specs.Lists.{In}
 
 -- the first k elements lie below, and no other does
@@ -19,10 +19,3 @@ Stands e es k = (k < length es) × (slice_index_or es k e ≡ e)
 abbrev pub Finding : Entry → List Entry → Result ℕ ℕ → Type 0
 Finding e es (Ok k) = Stands e es k
 Finding e es (Err k) = (In e es → ⊥) × Parts (λ f. Before f e) es k
-
--- e is proper and stands nowhere, k is its place, and there is room below the ceiling
-pub record Fitting (es : List Entry) (most : ℕ) (e : Entry) (k : ℕ) : Type 0 where
-  pub proper : Proper e
-  pub new : In e es → ⊥
-  pub place : Parts (λ f. Before f e) es k
-  pub room : length es < most
