@@ -69,9 +69,10 @@ impl Cell {
     pub(crate) fn turned(self, right: Right) -> Cell
         ensures { result ≡ turned self right }
     {
-        let mut cell = self;
-        cell.rights ^= 1 << bit_number(right);
-        cell
+        Cell {
+            rights: self.rights ^ 1 << bit_number(right),
+            ..self
+        }
     }
 
     // How many entries the cell holds.
