@@ -6,9 +6,9 @@ here=$(cd "$(dirname "$0")/.." && pwd)
 work=$(mktemp -d)
 trap 'rm -rf "$work"' EXIT
 mkdir -p "$work/crates/books_bench/src" "$work/crates/books_bench/specs" "$work/crates/books_bench/proofs"
-(cd "$here/crates" && tar --exclude=out --exclude=must-fail -cf - rights book) | tar -xf - -C "$work/crates"
+(cd "$here/crates" && tar --exclude=out --exclude=must-fail -cf - rights rising book) | tar -xf - -C "$work/crates"
 touch "$work/crates/books_bench/specs/Lib.antt" "$work/crates/books_bench/proofs/Lib.antt"
-printf 'rights:\nbook: rights\nbooks_bench staticlib: book rights\n' > "$work/crates.txt"
+printf 'rights:\nrising: rights\nbook: rights rising\nbooks_bench staticlib: book rights\n' > "$work/crates.txt"
 cat > "$work/crates/books_bench/src/lib.rt" <<'SOURCE'
 // Puts 4,000 entries in a scattered order, reads all places in order and takes all entries, on either book.
 #![tactic(auto)]

@@ -1,19 +1,21 @@
 -- Running counts of cells: what they tell, and what counting anew leaves; what a cell book keeps when its cells change.
-use Rattle.std.proofs.Common.{◌≡◌, ℕ, zero, suc, ◌+◌, ◌-◌, ◌<◌, ◌≤◌, true, ◌&&◌, eqb, ltb, List, [], ◌∷◌, ◌++◌, length, get_or, take, drop, set, sym, refl, ap, ◌∙◌, subst, add-zero, zero-add, arith, get_or-drop}
-use Rattle.std.specs.List.{AllByRecursion}
-use Rattle.std.proofs.lemmas.List.{append-nil, length-append, length-set, length-take-le, get_or-take, take-take, take_more, take_more_set, take-append-drop, drop-drop, drop-set-lt}
+use Rattle.std.proofs.Common.{◌≡◌, ℕ, zero, suc, ◌+◌, ◌-◌, ◌<◌, ◌≤◌, true, ◌&&◌, eqb, ltb, List, [], ◌∷◌, ◌++◌, length, Some, None, get_or, take, drop, set, sym, refl, ap, ◌∙◌, subst, add-zero, zero-add, arith, get_or-drop, append_assoc}
+use Rattle.std.proofs.Math.Seq.{set-append_seam}
+use Rattle.std.specs.List.{slice_get, AllByRecursion}
+use Rattle.std.proofs.lemmas.Option.{slice_get_within, slice_get-get_or, get_or_from_slice_get, none-some}
+use Rattle.std.proofs.lemmas.List.{append-nil, length-append, length-set, length-take-le, length-drop, get_or-append_right, take_all, take_more, drop_more, take-append-drop}
 use Rattle.std.proofs.lemmas.Bool.{eqb-true, eq-eqb, ltb-true, lt-ltb, and_parts, and_from}
-use Rattle.rights.specs.Entries.{sound}
+use Rattle.rights.specs.Entries.{Proper, sound}
 use Rattle.rights.specs.Lists.{Rising}
 use Rattle.rights.proofs.Order.{sound_from, sound_proper}
 use Rattle.book.specs.declared.keyed.Cell.{Cell}
 use Rattle.book.specs.declared.packed.Cells.{Cells}
-use Rattle.book.specs.declared.store.Store.{Store}
-use Rattle.book.specs.Cells.{unpacked, held, KeyBefore, climbs, numbered, recounted, counted_on, Orderly}
+use Rattle.rising.specs.declared.fronts.Front.{Front}
+use Rattle.book.specs.Cells.{unpacked, held, KeyBefore, climbs, numbered, recounted, counted_on}
 use Rattle.book.specs.Packing.{cells}
-use Rattle.book.specs.Stores.{stored, Backed, SameRest, Refilled}
+use Rattle.rising.specs.Fronts.{stored, whole, SameRest, Refilled}
 use Rattle.book.proofs.Heaps.{held_append, held_rises, decides_climbs}
-use Rattle.book.proofs.Stores.{refilled_again}
+use Rattle.rising.proofs.Filled.{refilled_again}
 
 -- ---- running counts
 
@@ -103,60 +105,89 @@ unfolding numbered counted_on
 numbered_counted n [] all = refl
 numbered_counted n (c ∷ cs) all = and_from _ _ (and_from _ _ (eq-eqb n n refl) (lt-ltb 0 _ all.0)) (numbered_counted (n + length (unpacked c)) cs all.1)
 
--- the first k cells of the list have been counted anew, and hold so many entries
-pub record Counting (old list : List Cell) (k count : ℕ) : Type 0 where
-  pub front : take k list ≡ counted_on 0 (take k old)
-  pub rest : drop k list ≡ drop k old
-  pub long : length list ≡ length old
-  pub total : count ≡ length (held (take k old))
+-- nothing changed
+unchanged : (f : Front Cell) (cs : List Cell) → stored f ≡ cs → Refilled f cs f
+unchanged f cs is = record { holds = is; long = refl; rest = refl }
 
-pub counting_from : (old : List Cell) (n i count : ℕ) → i ≤ n → numbered 0 (take i (take n old)) ≡ true → count ≡ length (held (take i (take n old))) → Counting old old i count
-counting_from old n i count le test is =
-    let short = take-take i n old le in
-    record { front = sym (counted_same 0 (take i old) (subst (λ l. numbered 0 l ≡ true) short test)); rest = refl; long = refl; total = is ∙ ap (λ l. length (held l)) short }
+-- the first k cells have been counted anew, and hold so many entries
+pub record Counting (old now : Front Cell) (k count : ℕ) : Type 0 where
+  pub filled : Refilled old (counted_on 0 (take k (stored old)) ++ drop k (stored old)) now
+  pub total : count ≡ length (held (take k (stored old)))
 
-module _ (old list : List Cell) (k count : ℕ) (d : Cell) (g : Counting old list k count) (in' : k < length old) where
-  next_cell : get_or list k d ≡ get_or old k d
-  next_cell = get_or_from_drop list ∙ ap (λ l. get_or l 0 d) g.rest ∙ sym (get_or_from_drop old)
-    where
-      get_or_from_drop : (cs : List Cell) → get_or cs k d ≡ get_or (drop k cs) 0 d
-      get_or_from_drop cs = ap (λ j. get_or cs j d) (sym (add-zero k)) ∙ sym (get_or-drop k cs 0 d)
+pub counting_from : (old : Front Cell) (i count : ℕ) → numbered 0 (take i (stored old)) ≡ true → count ≡ length (held (take i (stored old))) → Counting old old i count
+counting_from old i count test is = record {
+  filled = unchanged old _ (sym (ap (λ l. l ++ drop i (stored old)) (counted_same 0 (take i (stored old)) test) ∙ take-append-drop i (stored old)));
+  total = is;
+}
 
-  next_total : count + length (unpacked (get_or list k d)) ≡ length (held (take (k + 1) old))
+module _ (old now : Front Cell) (k count : ℕ) (d : Cell) (g : Counting old now k count) (in' : k < length (stored old)) where
+  -- the cells counted anew so far
+  abbrev front : List Cell
+  front = counted_on 0 (take k (stored old))
+
+  front_long : length front ≡ k
+  front_long = length_counted 0 (take k (stored old)) ∙ length-take-le k (stored old) (omega arith)
+
+  rest_is : drop k (stored old) ≡ get_or (stored old) k d ∷ drop (k + 1) (stored old)
+  rest_is = drop_more (stored old) k d in'
+
+  pub long_now : length (stored now) ≡ length (stored old)
+  long_now =
+      ap length g.filled.holds ∙ length-append front (drop k (stored old)) ∙ (let f = front_long in let r = length-drop k (stored old) in omega arith)
+
+  next_cell : get_or (stored now) k d ≡ get_or (stored old) k d
+  next_cell =
+      ap (λ l. get_or l k d) g.filled.holds ∙ get_or-append_right front (drop k (stored old)) k k d front_long (omega arith)
+      ∙ get_or-drop k (stored old) (k - k) d ∙ ap (λ j. get_or (stored old) j d) (omega arith)
+
+  next_total : count + length (unpacked (get_or (stored now) k d)) ≡ length (held (take (k + 1) (stored old)))
   next_total =
-      ap (λ x. count + length (unpacked x)) next_cell ∙ ap (λ n. n + length (unpacked (get_or old k d))) g.total
-      ∙ sym (length_held_push (take k old) (get_or old k d)) ∙ ap (λ l. length (held l)) (sym (take_more old k d in'))
+      ap (λ x. count + length (unpacked x)) next_cell ∙ ap (λ n. n + length (unpacked (get_or (stored old) k d))) g.total
+      ∙ sym (length_held_push (take k (stored old)) (get_or (stored old) k d)) ∙ ap (λ l. length (held l)) (sym (take_more (stored old) k d in'))
 
   -- so far no more than all cells hold
-  pub counting_few : (n : ℕ) → k < n → count + length (unpacked (get_or list k d)) ≤ length (held (take n old))
-  counting_few n less =
-      let more = held_front (k + 1) (take n old) in
-      omega (arith, next_total, ap (λ l. length (held l)) (take-take (k + 1) n old (omega arith)))
+  pub counting_few : count + length (unpacked (get_or (stored now) k d)) ≤ length (held (stored old))
+  counting_few = let more = held_front (k + 1) (stored old) in omega (arith, next_total)
 
-  pub counting_more : Counting old (set list k (recounted (get_or list k d) count)) (k + 1) (count + length (unpacked (get_or list k d)))
-  counting_more =
-      let here : recounted (get_or list k d) count ≡ recounted (get_or old k d) (0 + length (held (take k old))) = ap (λ x. recounted x count) next_cell ∙ ap (recounted (get_or old k d)) (g.total ∙ sym (zero-add _)) in
+  pub counting_more : (after : Front Cell) → Refilled now (set (stored now) k (recounted (get_or (stored now) k d) count)) after → Counting old after (k + 1) (count + length (unpacked (get_or (stored now) k d)))
+  counting_more after to =
+      let here : recounted (get_or (stored now) k d) count ≡ recounted (get_or (stored old) k d) (0 + length (held (take k (stored old)))) =
+      ap (λ x. recounted x count) next_cell ∙ ap (recounted (get_or (stored old) k d)) (g.total ∙ sym (zero-add _)) in
+      let written : set (stored now) k (recounted (get_or (stored now) k d) count) ≡ counted_on 0 (take (k + 1) (stored old)) ++ drop (k + 1) (stored old) =
+      ap (λ l. set l k (recounted (get_or (stored now) k d) count)) (g.filled.holds ∙ ap (λ l. front ++ l) rest_is)
+      ∙ ap (λ n. set (front ++ get_or (stored old) k d ∷ drop (k + 1) (stored old)) n (recounted (get_or (stored now) k d) count)) (sym front_long)
+      ∙ set-append_seam front (get_or (stored old) k d) (drop (k + 1) (stored old)) (recounted (get_or (stored now) k d) count)
+      ∙ ap (λ c. front ++ c ∷ drop (k + 1) (stored old)) here
+      ∙ sym (append_assoc front (recounted (get_or (stored old) k d) (0 + length (held (take k (stored old)))) ∷ []) (drop (k + 1) (stored old)))
+      ∙ ap (λ l. l ++ drop (k + 1) (stored old)) (sym (counted_push 0 (take k (stored old)) (get_or (stored old) k d)) ∙ ap (counted_on 0) (sym (take_more (stored old) k d in'))) in
       record {
-        front = take_more_set list k _ (omega (arith, g.long)) ∙ ap (λ l. l ++ recounted (get_or list k d) count ∷ []) g.front ∙ ap (λ c. counted_on 0 (take k old) ++ c ∷ []) here
-            ∙ sym (counted_push 0 (take k old) (get_or old k d)) ∙ ap (counted_on 0) (sym (take_more old k d in'));
-        rest = drop-set-lt (k + 1) list k _ (omega arith) ∙ sym (drop-drop 1 k list) ∙ ap (drop 1) g.rest ∙ drop-drop 1 k old;
-        long = length-set list k _ ∙ g.long;
+        filled = subst (λ l. Refilled old l after) written (refilled_again old now after _ _ g.filled to (length-set (stored now) k _ ∙ ap length g.filled.holds));
         total = next_total;
       }
 
--- the last of the first i cells tells how many entries they hold
-pub counts_to : (list : List Cell) (n i : ℕ) (d : Cell) → n ≤ length list → 0 < i → i ≤ n → numbered 0 (take i (take n list)) ≡ true → (get_or list (i - 1) d).earlier + length (unpacked (get_or list (i - 1) d)) ≡ length (held (take i (take n list)))
-counts_to list n i d room some le test =
-    let short = take-take i n list le in
-    let up : i - 1 + 1 ≡ i = omega arith in
-    let size = length-take-le i list (omega arith) in
-    let at = numbered_at 0 (take i list) (i - 1) d (subst (λ l. numbered 0 l ≡ true) short test) (omega arith) in
-    let read = get_or-take i list (i - 1) d (omega arith) in
-    let before = ap (λ l. length (held l)) (take-take (i - 1) i list (omega arith)) in
-    let whole = ap (λ l. length (held l)) (short ∙ ap (λ m. take m list) (sym up) ∙ take_more list (i - 1) d (omega arith)) ∙ length_held_push (take (i - 1) list) (get_or list (i - 1) d) in
-    omega (arith, ap (λ c. c.earlier) read)
+-- the last cell tells how many entries all hold
+pub last_tells : (cs : List Cell) (c : Cell) → numbered 0 cs ≡ true → slice_get cs (length cs - 1) ≡ Some c → c.earlier + length (unpacked c) ≡ length (held cs)
+last_tells cs c test is =
+    let in' = slice_get_within cs (length cs - 1) c is in
+    let last = get_or_from_slice_get cs (length cs - 1) c c is in
+    let at = numbered_at 0 cs (length cs - 1) c test in' in
+    let up : length cs - 1 + 1 ≡ length cs = omega arith in
+    let whole = ap (λ l. length (held l)) (sym (take_all (length cs) cs (omega arith)) ∙ ap (λ n. take n cs) (sym up) ∙ take_more cs (length cs - 1) c in') ∙ length_held_push (take (length cs - 1) cs) (get_or cs (length cs - 1) c) in
+    omega (arith, ap (λ x. x.earlier) last, ap (λ x. length (unpacked x)) last)
+
+-- where none is last, nothing is held
+pub none_last : (cs : List Cell) → slice_get cs (length cs - 1) ≡ None → 0 ≡ length (held cs)
+none_last [] is = refl
+none_last (c ∷ cs) is = absurd (none-some (get_or (c ∷ cs) (length cs) c) (sym is ∙ ap (slice_get (c ∷ cs)) (omega arith) ∙ slice_get-get_or (c ∷ cs) (length cs) c (omega arith)))
 
 -- ---- orderly lists
+
+-- a list of cells that a book with that ceiling can have
+pub record Orderly (cs : List Cell) (most : ℕ) : Type 0 where
+  pub climbing : Rising KeyBefore cs
+  pub proper : AllByRecursion Proper (held cs)
+  pub filled : AllByRecursion (λ c. 0 < length (unpacked c)) cs
+  pub few : length (held cs) ≤ most
 
 pub orderly_from : (cs : List Cell) (most : ℕ) → sound (held cs) ≡ true → climbs cs ≡ true → numbered 0 cs ≡ true → length (held cs) ≤ most → Orderly cs most
 orderly_from cs most rises keys sums few = record {
@@ -168,56 +199,48 @@ orderly_from cs most rises keys sums few = record {
 
 -- ---- what a cell book keeps
 
-abbrev pub KeptCells : Store Cell → ℕ → ℕ → Type 0
-KeptCells s count ceiling = record {
-  counted : count ≤ ceiling;
-  room : ceiling ≤ length s.list.now;
+abbrev pub KeptCells : Front Cell → ℕ → Type 0
+KeptCells f ceiling = record {
+  counted : length (held (stored f)) ≤ ceiling;
+  room : ceiling ≤ length (whole f);
   limited : ceiling ≤ 4096;
-  inside : Backed s;
-  rises : sound (held (stored s)) ≡ true;
-  keys : climbs (stored s) ≡ true;
-  sums : numbered 0 (stored s) ≡ true;
-  total : count ≡ length (held (stored s));
+  rises : sound (held (stored f)) ≡ true;
+  keys : climbs (stored f) ≡ true;
+  sums : numbered 0 (stored f) ≡ true;
 }
 
 pub orderly_book : (b : Cells) → Orderly (cells b) b.ceiling
-orderly_book b = orderly_from (cells b) b.ceiling b.rises b.keys b.sums (subst (λ n. n ≤ b.ceiling) b.total b.counted)
-
-pub length_cells : (b : Cells) → length (cells b) ≡ b.store.used
-length_cells b = length-take-le b.store.used b.store.list.now b.inside
+orderly_book b = orderly_from (cells b) b.ceiling b.rises b.keys b.sums b.counted
 
 -- the cells change to cs, and are then counted anew
-module _ (b : Cells) (s : Store Cell) (cs : List Cell) (to : Refilled b.store cs s) (o : Orderly cs b.ceiling) where
-  pub few_held : length (held (stored s)) ≤ 4096
+module _ (b : Cells) (f : Front Cell) (cs : List Cell) (to : Refilled b.front cs f) (o : Orderly cs b.ceiling) where
+  pub few_held : length (held (stored f)) ≤ 4096
   few_held = omega (arith, ap (λ l. length (held l)) to.holds, o.few, b.limited)
 
   -- the cells before place i are the old ones, so their counts stand
-  pub counts_stand : (i : ℕ) → take i cs ≡ take i (cells b) → numbered 0 (take i (stored s)) ≡ true
+  pub counts_stand : (i : ℕ) → take i cs ≡ take i (cells b) → numbered 0 (take i (stored f)) ≡ true
   counts_stand i same = ap (λ l. numbered 0 (take i l)) to.holds ∙ ap (numbered 0) same ∙ numbered_take 0 (cells b) i b.sums
 
-  module _ (after : Store Cell) (on : Refilled s (counted_on 0 (stored s)) after) where
-    whole : Refilled b.store (counted_on 0 cs) after
-    whole = refilled_again b.store s after cs _ to (subst (λ l. Refilled s (counted_on 0 l) after) to.holds on) (length_counted 0 cs)
+  module _ (after : Front Cell) (on : Refilled f (counted_on 0 (stored f)) after) where
+    both : Refilled b.front (counted_on 0 cs) after
+    both = refilled_again b.front f after cs _ to (subst (λ l. Refilled f (counted_on 0 l) after) to.holds on) (length_counted 0 cs)
 
     pub changed_holds : held (stored after) ≡ held cs
-    changed_holds = ap held whole.holds ∙ held_counted 0 cs
+    changed_holds = ap held both.holds ∙ held_counted 0 cs
 
-    pub changed_rest : SameRest b.store after
-    changed_rest = whole.rest
+    pub changed_rest : SameRest b.front after
+    changed_rest = both.rest
 
-    pub kept_cells : (count : ℕ) → count ≡ length (held (stored s)) → KeptCells after count b.ceiling
-    kept_cells count is =
-        let total = is ∙ ap (λ l. length (held l)) to.holds in
-        let holds = whole.holds in
+    pub kept_cells : KeptCells after b.ceiling
+    kept_cells =
+        let holds = both.holds in
         record {
-          counted = omega (arith, o.few);
-          room = omega (arith, whole.long, b.room);
+          counted = omega (arith, ap length changed_holds, o.few);
+          room = omega (arith, both.long, b.room);
           limited = b.limited;
-          inside = whole.inside;
           rises = ap sound changed_holds ∙ sound_from (held cs) (held_rises cs o.climbing) o.proper;
           keys = ap climbs holds ∙ (decides_climbs (counted_on 0 cs)).1 (rising_counted 0 cs o.climbing);
           sums = ap (numbered 0) holds ∙ numbered_counted 0 cs o.filled;
-          total = total ∙ ap length (sym changed_holds);
         }
 
 -- what is read past the end of a list

@@ -1,20 +1,27 @@
 -- Lists of cells that rise by key: what they hold, that it rises, and what one more cell, one less or another changes.
-use Rattle.std.proofs.Common.{◌≡◌, ℕ, ◌+◌, ◌<◌, ◌≤◌, ◌⊎◌, List, [], ◌∷◌, ◌++◌, length, get_or, take, drop, Err, Decides, sym, refl, ap, ◌∙◌, subst, inl, inr, ⊎_elim, append_assoc, arith}
+use Rattle.std.proofs.Common.{◌≡◌, ℕ, ◌+◌, ◌<◌, ◌⊎◌, List, [], ◌∷◌, ◌++◌, length, get_or, take, drop, Ok, Err, Result, false, Decides, sym, refl, ap, ◌∙◌, subst, inl, inr, ⊎_elim, append_assoc, arith}
 use Rattle.std.specs.List.{list_all, AllByRecursion}
 use Rattle.std.proofs.ByRecursion.{All-append, All-from_get_or, Decides-by_and}
 use Rattle.std.proofs.lemmas.List.{length-take-le, length-drop, get_or-take, get_or-drop}
-use Rattle.std.proofs.lemmas.Bool.{cases_order}
+use Rattle.std.specs.List.Sorted.{IsNonDecreasingBy, IsBinarySearchResult, IsSearchInRange}
+use Rattle.std.specs.Ordering.{MatchOrdering, ordering_index, is_lt}
+use Rattle.std.specs.declared.cmp.Ordering.TheVariants.{Less, Equal, Greater}
+use Rattle.std.proofs.lemmas.Cmp.{by_ranked}
+use Rattle.std.proofs.lemmas.List.Sorted.{searchable_from_sorted}
 use Rattle.std.proofs.lemmas.Bool.Decides.{Decides-ltb, Decides-and}
 use Rattle.rights.specs.declared.entries.Entry.{Entry}
 use Rattle.rights.specs.declared.vocabulary.Right.{Right}
 use Rattle.rights.specs.Entries.{Before, RisingEntries}
 use Rattle.rights.specs.Lists.{In, Rising}
-use Rattle.rights.proofs.Order.{decides_then, then_transitive, then_total}
+use Rattle.rights.proofs.Derived.{then_order, same_where, bits}
+use Rattle.rights.proofs.Order.{decides_then, then_transitive}
+use Rattle.rising.proofs.Sought.{rising_get_or}
 use Rattle.book.specs.declared.keyed.Cell.{Cell}
 use Rattle.book.specs.Cells.{entry_of, unpacked, held, KeyBefore, key_before, climbs, key_cell, CellFinding}
 use Rattle.book.specs.Effects.{with_entry, without_entry}
-use Rattle.book.specs.Places.{Parts}
-use Rattle.book.proofs.Finds.{rising_get_or}
+use Rattle.book.specs.Keys.{cell_key, entry_key}
+use Rattle.book.specs.contracts.keyed.KeyOrd.TheImpl as key_ord
+use Rattle.book.specs.contracts.keyed.KeyOrd.TheImpl.Laws as key_laws
 use Rattle.book.proofs.Unpacked.{KeyOf, in_unpacked, unpacked_rises}
 use Rattle.book.proofs.Members.{all_in, all_from_in, in_with, with_in, with_rises, in_without, without_in, without_rises, gone, same_members}
 
@@ -29,6 +36,24 @@ unfolding climbs
 decides_climbs [] = ((λ _. tt), (λ _. refl))
 decides_climbs (c ∷ cs) = Decides-and _ _ (Decides-by_and (key_before c) (KeyBefore c) (list_all (key_before c)) (decides_key c) refl (λ _ _. refl) cs) (decides_climbs cs)
 
+-- the derived order of keys is that of cells
+key_order : (c d : Cell) → MatchOrdering ((key_ord.ghosts).cmp (cell_key c) (cell_key d)) (KeyBefore c d) (cell_key c ≡ cell_key d) (KeyBefore d c)
+unfolding KeyBefore
+key_order c d =
+    same_where (then_order c.subject d.subject (then_order c.table d.table (bits c.grantor d.grantor))) (cell_key c ≡ cell_key d)
+    (λ w. λ i. record { subject = w.0 i; table = w.1.0 i; grantor = w.1.1 i })
+
+key_less : (c : Cell) (e : Entry) → (key_ord.ghosts).cmp (cell_key c) (entry_key e) ≡ Less → KeyBefore c (key_cell e)
+key_less c e is = subst (λ o. MatchOrdering o (KeyBefore c (key_cell e)) (cell_key c ≡ entry_key e) (KeyBefore (key_cell e) c)) is (key_order c (key_cell e))
+
+key_greater : (c : Cell) (e : Entry) → (key_ord.ghosts).cmp (cell_key c) (entry_key e) ≡ Greater → KeyBefore (key_cell e) c
+key_greater c e is = subst (λ o. MatchOrdering o (KeyBefore c (key_cell e)) (cell_key c ≡ entry_key e) (KeyBefore (key_cell e) c)) is (key_order c (key_cell e))
+
+key_same : (c : Cell) (e : Entry) → (key_ord.ghosts).cmp (cell_key c) (entry_key e) ≡ Equal → KeyOf c e
+key_same c e is =
+    let q = subst (λ o. MatchOrdering o (KeyBefore c (key_cell e)) (cell_key c ≡ entry_key e) (KeyBefore (key_cell e) c)) is (key_order c (key_cell e)) in
+    λ i. record { subject = (sym q i).subject; table = (sym q i).table; grantor = (sym q i).grantor; right = e.right }
+
 pub key_irreflexive : (c d : Cell) → c.subject ≡ d.subject → c.table ≡ d.table → c.grantor ≡ d.grantor → KeyBefore c d → ⊥
 unfolding KeyBefore
 key_irreflexive c d s t x h = ⊎_elim (λ (k : c.subject < d.subject). omega arith) (λ k. ⊎_elim (λ (l : c.table < d.table). omega arith) (λ l. let m : c.grantor < d.grantor = l.1 in omega arith) k.1) h
@@ -36,6 +61,13 @@ key_irreflexive c d s t x h = ⊎_elim (λ (k : c.subject < d.subject). omega ar
 pub key_transitive : (c d f : Cell) → KeyBefore c d → KeyBefore d f → KeyBefore c f
 unfolding KeyBefore
 key_transitive c d f = then_transitive _ _ _ (then_transitive _ _ _ (λ (h : c.grantor < d.grantor) (k : d.grantor < f.grantor). omega arith))
+
+next_not_less : (c d : Cell) → KeyBefore c d → is_lt ((key_ord.ghosts).cmp (cell_key d) (cell_key c)) ≡ false
+next_not_less c d h =
+    by_ranked _ _ _ ((key_ord.ghosts).cmp (cell_key d) (cell_key c)) (key_order d c)
+    (λ e k. absurd (key_irreflexive c c refl refl refl (key_transitive c d c h k)))
+    (λ e k. ap is_lt e)
+    (λ e k. ap is_lt e)
 
 -- entries of cells in this order come in this order
 pub entries_follow : (c d : Cell) (r q : Right) → KeyBefore c d → Before (entry_of c r) (entry_of d q)
@@ -125,28 +157,18 @@ not_after e cs all i =
     let h = in_held e cs i in
     key_parts_after h.0 e (in_unpacked e h.0 h.2).0 (all_in (KeyBefore (key_cell e)) h.0 cs all h.1)
 
-pub key_total : (c d : Cell) → ((c.subject ≡ d.subject) × ((c.table ≡ d.table) × (c.grantor ≡ d.grantor))) ⊎ (KeyBefore c d ⊎ KeyBefore d c)
-unfolding KeyBefore
-key_total c d = then_total _ _ (then_total _ _ (cases_order c.grantor d.grantor))
+-- what the library's binary search for the key of e tells of a list that rises by key
+module _ (e : Entry) (cs : List Cell) (up : Rising KeyBefore cs) where
+  answers_rise : IsNonDecreasingBy (λ c. ordering_index ((key_ord.ghosts).cmp (cell_key c) (entry_key e))) cs
+  answers_rise = searchable_from_sorted key_laws.total-law cell_key cs (entry_key e) (λ k d lo in'. next_not_less _ _ (rising_get_or KeyBefore cs k (k + 1) d up (omega arith) in'))
 
--- where the search ended without the key, a cell with it belongs
-module _ (e : Entry) (cs : List Cell) (k : ℕ) (up : Rising KeyBefore cs) (p : Parts (λ c. KeyBefore c (key_cell e)) cs k) (other : k < length cs → KeyOf (get_or cs k (key_cell e)) e → ⊥) where
-  first_above : k < length cs → KeyBefore (key_cell e) (get_or cs k (key_cell e))
-  first_above in' =
-      ⊎_elim (λ h. absurd (other in' (λ i. record { subject = sym h.0 i; table = sym h.1.0 i; grantor = sym h.1.1 i; right = e.right })))
-      (⊎_elim (λ h. absurd (p.above k (key_cell e) (omega arith) in' h)) (λ h. h)) (key_total (get_or cs k (key_cell e)) (key_cell e))
-
-  all_above : (i : ℕ) → k ≤ i → i < length cs → KeyBefore (key_cell e) (get_or cs i (key_cell e))
-  all_above i le in' =
-      let first = first_above (omega arith) in
-      ⊎_elim (λ q. subst (λ j. KeyBefore (key_cell e) (get_or cs j (key_cell e))) q first)
-      (⊎_elim (λ less. key_transitive _ _ _ first (rising_get_or KeyBefore cs k i (key_cell e) up less in')) (λ more. absurd (omega arith))) (cases_order k i)
-
-  pub cell_belongs : CellFinding e cs (Err k)
-  cell_belongs =
-      let front = length-take-le k cs p.within in
+  pub found_cell : (r : Result ℕ ℕ) → IsSearchInRange r (length cs) → IsBinarySearchResult (λ c. (key_ord.ghosts).cmp (cell_key c) (entry_key e)) cs r → CellFinding e cs r
+  found_cell (Ok k) room at = (room, key_same (get_or cs k (key_cell e)) e (at (key_cell e)))
+  found_cell (Err k) room at =
+      let p = at answers_rise in
+      let front = length-take-le k cs room in
       let back = length-drop k cs in (
-        p.within,
-        All-from_get_or (λ c. KeyBefore c (key_cell e)) (take k cs) (key_cell e) (λ i h. subst (λ c. KeyBefore c (key_cell e)) (sym (get_or-take k cs i (key_cell e) (omega arith))) (p.below i (key_cell e) (omega arith))),
-        All-from_get_or (KeyBefore (key_cell e)) (drop k cs) (key_cell e) (λ i h. subst (KeyBefore (key_cell e)) (sym (get_or-drop k cs i (key_cell e))) (all_above (k + i) (omega arith) (omega arith))),
+        room,
+        All-from_get_or (λ c. KeyBefore c (key_cell e)) (take k cs) (key_cell e) (λ i h. subst (λ c. KeyBefore c (key_cell e)) (sym (get_or-take k cs i (key_cell e) (omega arith))) (key_less (get_or cs i (key_cell e)) e (p.0 i (key_cell e) (omega arith) (omega arith)))),
+        All-from_get_or (KeyBefore (key_cell e)) (drop k cs) (key_cell e) (λ i h. subst (KeyBefore (key_cell e)) (sym (get_or-drop k cs i (key_cell e))) (key_greater (get_or cs (k + i) (key_cell e)) e (p.1 (k + i) (key_cell e) (omega arith) (omega arith)))),
       )

@@ -6,9 +6,8 @@ pub mod Members
 pub mod Packs
 pub mod Plains
 pub mod Reading
-pub mod Stores
+pub mod Refused
 pub mod Table
-pub mod Tests
 pub mod Turns
 pub mod Undone
 pub mod Unpacked

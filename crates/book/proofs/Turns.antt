@@ -9,12 +9,12 @@ use Rattle.rights.specs.Bits.{bit}
 use Rattle.rights.specs.Entries.{Proper, RisingEntries}
 use Rattle.rights.specs.Lists.{In, Rising}
 use Rattle.book.specs.declared.keyed.Cell.{Cell}
-use Rattle.book.specs.Cells.{has, unpacked, held, KeyBefore, key_cell, CellFinding, Orderly}
+use Rattle.book.specs.Cells.{has, unpacked, held, KeyBefore, turned, key_cell, CellFinding}
 use Rattle.book.specs.Effects.{with_entry, without_entry}
-use Rattle.book.proofs.Counts.{held_parts}
+use Rattle.book.proofs.Counts.{Orderly, held_parts}
 use Rattle.book.proofs.Heaps.{key_transitive, held_append, held_rises, put_middle, take_middle, not_below, not_after, in_append, append_in}
 use Rattle.book.proofs.Members.{all_with, all_without, length_with, length_without}
-use Rattle.book.proofs.Unpacked.{KeyOf, turned, in_unpacked, holds_set, in_turned, turned_on, turned_off, turned_rest, empty_map, none_set, unpacked_rises}
+use Rattle.book.proofs.Unpacked.{KeyOf, in_unpacked, holds_set, in_turned, turned_on, turned_off, turned_rest, empty_map, none_set, unpacked_rises}
 
 -- ---- keys
 
@@ -177,51 +177,51 @@ module _ (e : Entry) (cs : List Cell) (most i : ℕ) (d : Cell) (o : Orderly cs 
   )
 
   module _ (unset : has (get_or cs i d).rights (bit e.right) ≡ false) (good : Proper e) (room : length (held cs) < most) where
-    on_is : held (take i cs ++ turned (get_or cs i d) e ∷ drop (suc i) cs) ≡ with_entry e (held (take i cs) ++ (unpacked (get_or cs i d) ++ held (drop (suc i) cs)))
+    on_is : held (take i cs ++ turned (get_or cs i d) e.right ∷ drop (suc i) cs) ≡ with_entry e (held (take i cs) ++ (unpacked (get_or cs i d) ++ held (drop (suc i) cs)))
     on_is =
-        put_is e (take i cs) (drop (suc i) cs) (unpacked (get_or cs i d)) low high up vp was (turned (get_or cs i d) e) key
+        put_is e (take i cs) (drop (suc i) cs) (unpacked (get_or cs i d)) low high up vp was (turned (get_or cs i d) e.right) key
         (λ h. false≢true (sym unset ∙ (in_unpacked e (get_or cs i d) h).1)) (in_turned (get_or cs i d) e key) (turned_on (get_or cs i d) e key unset)
 
-    pub put_set : held (set cs i (turned (get_or cs i d) e)) ≡ with_entry e (held cs)
+    pub put_set : held (set cs i (turned (get_or cs i d) e.right)) ≡ with_entry e (held cs)
     put_set = ap held (set_split cs i _ in') ∙ on_is ∙ ap (with_entry e) (sym parts)
 
-    pub put_set_orderly : Orderly (set cs i (turned (get_or cs i d) e)) most
+    pub put_set_orderly : Orderly (set cs i (turned (get_or cs i d) e.right)) most
     put_set_orderly =
         subst (λ l. Orderly l most) (sym (set_split cs i _ in'))
-        (put_orderly e (take i cs) (drop (suc i) cs) (unpacked (get_or cs i d)) low high up vp was (turned (get_or cs i d) e) key most on_is (turned_on (get_or cs i d) e key unset e (inl refl))
+        (put_orderly e (take i cs) (drop (suc i) cs) (unpacked (get_or cs i d)) low high up vp was (turned (get_or cs i d) e.right) key most on_is (turned_on (get_or cs i d) e key unset e (inl refl))
         (All-take (λ x. 0 < length (unpacked x)) i cs o.filled) (All-drop (λ x. 0 < length (unpacked x)) (suc i) cs o.filled) all good (subst (λ l. length l < most) parts room))
 
   module _ (is_set : has (get_or cs i d).rights (bit e.right) ≡ true) where
     mine : In e (unpacked (get_or cs i d))
     mine = holds_set (get_or cs i d) e key is_set
 
-    down_to : (f : Entry) → In f (unpacked (turned (get_or cs i d) e)) → In f (unpacked (get_or cs i d))
-    down_to f h = ⊎_elim (λ p. absurd (turned_off (get_or cs i d) e key is_set (subst (λ g. In g (unpacked (turned (get_or cs i d) e))) p h))) (λ k. k) (in_turned (get_or cs i d) e key f h)
+    down_to : (f : Entry) → In f (unpacked (turned (get_or cs i d) e.right)) → In f (unpacked (get_or cs i d))
+    down_to f h = ⊎_elim (λ p. absurd (turned_off (get_or cs i d) e key is_set (subst (λ g. In g (unpacked (turned (get_or cs i d) e.right))) p h))) (λ k. k) (in_turned (get_or cs i d) e key f h)
 
     few : length (held (take i cs) ++ (unpacked (get_or cs i d) ++ held (drop (suc i) cs))) ≤ most
     few = subst (λ l. length l ≤ most) parts o.few
 
-    off_is : held (take i cs ++ turned (get_or cs i d) e ∷ drop (suc i) cs) ≡ without_entry e (held (take i cs) ++ (unpacked (get_or cs i d) ++ held (drop (suc i) cs)))
+    off_is : held (take i cs ++ turned (get_or cs i d) e.right ∷ drop (suc i) cs) ≡ without_entry e (held (take i cs) ++ (unpacked (get_or cs i d) ++ held (drop (suc i) cs)))
     off_is =
-        take_is e (take i cs) (drop (suc i) cs) (unpacked (get_or cs i d)) low high up vp was (turned (get_or cs i d) e) key
+        take_is e (take i cs) (drop (suc i) cs) (unpacked (get_or cs i d)) low high up vp was (turned (get_or cs i d) e.right) key
         (turned_off (get_or cs i d) e key is_set) down_to (turned_rest (get_or cs i d) e key)
 
-    pub take_set' : held (set cs i (turned (get_or cs i d) e)) ≡ without_entry e (held cs)
+    pub take_set' : held (set cs i (turned (get_or cs i d) e.right)) ≡ without_entry e (held cs)
     take_set' = ap held (set_split cs i _ in') ∙ off_is ∙ ap (without_entry e) (sym parts)
 
     -- a cell with more than e holds something else
-    still_some : (length (unpacked (get_or cs i d)) ≡ 1 → ⊥) → 0 < length (unpacked (turned (get_or cs i d) e))
+    still_some : (length (unpacked (get_or cs i d)) ≡ 1 → ⊥) → 0 < length (unpacked (turned (get_or cs i d) e.right))
     still_some more =
-        let is = take_middle e [] [] (unpacked (get_or cs i d)) (unpacked (turned (get_or cs i d) e)) (subst RisingEntries (sym (append-nil _)) (unpacked_rises (get_or cs i d))) (subst RisingEntries (sym (append-nil _)) (unpacked_rises (turned (get_or cs i d) e))) (λ h. h) (λ h. h) (turned_off (get_or cs i d) e key is_set) down_to (turned_rest (get_or cs i d) e key) in
-        let n = ap length (sym (append-nil (unpacked (turned (get_or cs i d) e))) ∙ is ∙ ap (without_entry e) (append-nil (unpacked (get_or cs i d)))) in
+        let is = take_middle e [] [] (unpacked (get_or cs i d)) (unpacked (turned (get_or cs i d) e.right)) (subst RisingEntries (sym (append-nil _)) (unpacked_rises (get_or cs i d))) (subst RisingEntries (sym (append-nil _)) (unpacked_rises (turned (get_or cs i d) e.right))) (λ h. h) (λ h. h) (turned_off (get_or cs i d) e key is_set) down_to (turned_rest (get_or cs i d) e key) in
+        let n = ap length (sym (append-nil (unpacked (turned (get_or cs i d) e.right))) ∙ is ∙ ap (without_entry e) (append-nil (unpacked (get_or cs i d)))) in
         let m = length_without e (unpacked (get_or cs i d)) mine in
         let k = some_in e (unpacked (get_or cs i d)) mine in
         omega arith
 
-    pub take_set_orderly : (length (unpacked (get_or cs i d)) ≡ 1 → ⊥) → Orderly (set cs i (turned (get_or cs i d) e)) most
+    pub take_set_orderly : (length (unpacked (get_or cs i d)) ≡ 1 → ⊥) → Orderly (set cs i (turned (get_or cs i d) e.right)) most
     take_set_orderly more =
         subst (λ l. Orderly l most) (sym (set_split cs i _ in'))
-        (take_orderly e (take i cs) (drop (suc i) cs) (unpacked (get_or cs i d)) low high up vp was (turned (get_or cs i d) e) key most off_is (still_some more)
+        (take_orderly e (take i cs) (drop (suc i) cs) (unpacked (get_or cs i d)) low high up vp was (turned (get_or cs i d) e.right) key most off_is (still_some more)
         (All-take (λ x. 0 < length (unpacked x)) i cs o.filled) (All-drop (λ x. 0 < length (unpacked x)) (suc i) cs o.filled) all mine few)
 
     module _ (one : length (unpacked (get_or cs i d)) ≡ 1) where
@@ -252,19 +252,19 @@ module _ (e : Entry) (cs : List Cell) (most i : ℕ) (o : Orderly cs most) (foun
   stands_nowhere h = only_middle e (take i cs) (drop i cs) [] found.1 found.2 front back rises (subst (In e) split h)
 
   module _ (good : Proper e) (room : length (held cs) < most) where
-    alone : (f : Entry) → In f (unpacked (turned (key_cell e) e)) → (f ≡ e) ⊎ In f []
+    alone : (f : Entry) → In f (unpacked (turned (key_cell e) e.right)) → (f ≡ e) ⊎ In f []
     alone f h = ⊎_elim inl (λ k. absurd (empty_map f (key_cell e) refl k)) (in_turned (key_cell e) e refl f h)
 
-    with_it : (f : Entry) → (f ≡ e) ⊎ In f [] → In f (unpacked (turned (key_cell e) e))
+    with_it : (f : Entry) → (f ≡ e) ⊎ In f [] → In f (unpacked (turned (key_cell e) e.right))
     with_it f h = turned_on (key_cell e) e refl (none_set (bit e.right)) f (⊎_elim inl absurd h)
 
-    new_is : held (take i cs ++ turned (key_cell e) e ∷ drop i cs) ≡ with_entry e (held (take i cs) ++ ([] ++ held (drop i cs)))
-    new_is = put_is e (take i cs) (drop i cs) [] found.1 found.2 front back rises (turned (key_cell e) e) refl (λ h. h) alone with_it
+    new_is : held (take i cs ++ turned (key_cell e) e.right ∷ drop i cs) ≡ with_entry e (held (take i cs) ++ ([] ++ held (drop i cs)))
+    new_is = put_is e (take i cs) (drop i cs) [] found.1 found.2 front back rises (turned (key_cell e) e.right) refl (λ h. h) alone with_it
 
-    pub put_cell : held (insert cs i (turned (key_cell e) e)) ≡ with_entry e (held cs)
+    pub put_cell : held (insert cs i (turned (key_cell e) e.right)) ≡ with_entry e (held cs)
     put_cell = new_is ∙ ap (with_entry e) (sym split)
 
-    pub put_cell_orderly : Orderly (insert cs i (turned (key_cell e) e)) most
+    pub put_cell_orderly : Orderly (insert cs i (turned (key_cell e) e.right)) most
     put_cell_orderly =
-        put_orderly e (take i cs) (drop i cs) [] found.1 found.2 front back rises (turned (key_cell e) e) refl most new_is (with_it e (inl refl))
+        put_orderly e (take i cs) (drop i cs) [] found.1 found.2 front back rises (turned (key_cell e) e.right) refl most new_is (with_it e (inl refl))
         (All-take (λ x. 0 < length (unpacked x)) i cs o.filled) (All-drop (λ x. 0 < length (unpacked x)) i cs o.filled) (subst (AllByRecursion Proper) split o.proper) good (subst (λ l. length l < most) split room)

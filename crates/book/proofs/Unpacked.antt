@@ -13,7 +13,7 @@ use Rattle.rights.specs.Entries.{Before, RisingEntries}
 use Rattle.rights.specs.Lists.{In}
 use Rattle.rights.proofs.Bits.{row_of, bit_below, bit_injective}
 use Rattle.book.specs.declared.keyed.Cell.{Cell}
-use Rattle.book.specs.Cells.{has, entry_of, picked, unpacked}
+use Rattle.book.specs.Cells.{has, entry_of, picked, unpacked, turned}
 use Rattle.book.proofs.Members.{in_get_or, all_from_in}
 use Rattle.book.proofs.Table.{numbered}
 
@@ -159,10 +159,6 @@ unpacked_rises c = picked_rises c c.rights rows 0 refl
 abbrev pub KeyOf : Cell → Entry → Type 0
 KeyOf c e = e ≡ entry_of c e.right
 
--- the cell with the bit of e turned
-abbrev pub turned : Cell → Entry → Cell
-turned c e = record { subject = c.subject; table = c.table; grantor = c.grantor; rights = bit_xor c.rights (2 ^ bit e.right); earlier = c.earlier }
-
 module _ (c : Cell) (e : Entry) (key : KeyOf c e) where
   other_bit : (f : Entry) → KeyOf c f → (f ≡ e → ⊥) → bit f.right ≡ bit e.right → ⊥
   other_bit f k other same = other (k ∙ ap (entry_of c) (bit_injective _ _ same) ∙ sym key)
@@ -174,27 +170,27 @@ module _ (c : Cell) (e : Entry) (key : KeyOf c e) where
   pub holds_set : has c.rights (bit e.right) ≡ true → In e (unpacked c)
   holds_set set = subst (λ f. In f (unpacked c)) (sym key) (unpacked_in c e.right set)
 
-  pub in_turned : (f : Entry) → In f (unpacked (turned c e)) → (f ≡ e) ⊎ In f (unpacked c)
+  pub in_turned : (f : Entry) → In f (unpacked (turned c e.right)) → (f ≡ e) ⊎ In f (unpacked c)
   in_turned f i =
-      let h = in_unpacked f (turned c e) i in
+      let h = in_unpacked f (turned c e.right) i in
       ⊎_elim (λ same. inl (same_bit f h.0 same))
       (λ other. inr (subst (λ g. In g (unpacked c)) (sym h.0) (unpacked_in c f.right (sym (toggled_other c.rights _ _ other) ∙ h.1)))) (cases_eq (bit f.right) (bit e.right))
 
-  pub turned_on : has c.rights (bit e.right) ≡ false → (f : Entry) → (f ≡ e) ⊎ In f (unpacked c) → In f (unpacked (turned c e))
+  pub turned_on : has c.rights (bit e.right) ≡ false → (f : Entry) → (f ≡ e) ⊎ In f (unpacked c) → In f (unpacked (turned c e.right))
   turned_on unset f (inl p) =
-      subst (λ g. In g (unpacked (turned c e))) (sym (p ∙ key)) (unpacked_in (turned c e) e.right (toggled_same c.rights (bit e.right) ∙ ap not unset))
+      subst (λ g. In g (unpacked (turned c e.right))) (sym (p ∙ key)) (unpacked_in (turned c e.right) e.right (toggled_same c.rights (bit e.right) ∙ ap not unset))
   turned_on unset f (inr i) =
       let h = in_unpacked f c i in
       let other : bit f.right ≡ bit e.right → ⊥ = λ same. false≢true (sym unset ∙ ap (has c.rights) (sym same) ∙ h.1) in
-      subst (λ g. In g (unpacked (turned c e))) (sym h.0) (unpacked_in (turned c e) f.right (toggled_other c.rights _ _ other ∙ h.1))
+      subst (λ g. In g (unpacked (turned c e.right))) (sym h.0) (unpacked_in (turned c e.right) f.right (toggled_other c.rights _ _ other ∙ h.1))
 
-  pub turned_off : has c.rights (bit e.right) ≡ true → In e (unpacked (turned c e)) → ⊥
-  turned_off set i = false≢true (sym (toggled_same c.rights (bit e.right) ∙ ap not set) ∙ (in_unpacked e (turned c e) i).1)
+  pub turned_off : has c.rights (bit e.right) ≡ true → In e (unpacked (turned c e.right)) → ⊥
+  turned_off set i = false≢true (sym (toggled_same c.rights (bit e.right) ∙ ap not set) ∙ (in_unpacked e (turned c e.right) i).1)
 
-  pub turned_rest : (f : Entry) → In f (unpacked c) → (f ≡ e → ⊥) → In f (unpacked (turned c e))
+  pub turned_rest : (f : Entry) → In f (unpacked c) → (f ≡ e → ⊥) → In f (unpacked (turned c e.right))
   turned_rest f i other =
       let h = in_unpacked f c i in
-      subst (λ g. In g (unpacked (turned c e))) (sym h.0) (unpacked_in (turned c e) f.right (toggled_other c.rights _ _ (other_bit f h.0 other) ∙ h.1))
+      subst (λ g. In g (unpacked (turned c e.right))) (sym h.0) (unpacked_in (turned c e.right) f.right (toggled_other c.rights _ _ (other_bit f h.0 other) ∙ h.1))
 
 pub empty_map : (f : Entry) (c : Cell) → c.rights ≡ 0 → In f (unpacked c) → ⊥
 empty_map f c none i = let h = in_unpacked f c i in false≢true (sym (none_set (bit f.right)) ∙ ap (λ m. has m (bit f.right)) (sym none) ∙ h.1)

@@ -1,14 +1,15 @@
 -- Cells: all entries of one subject, table and grantor, as a map of bits by bit number.
 -- unpacked: the entries of a cell. held: those of a list of cells. KeyBefore: the order of cells.
 -- climbs, numbered: the tests of a list that rises by key, and of its running counts. counted_on: the list with such counts.
--- CellFinding: where the cell of an entry stands or belongs. Orderly: what a book's cells must be.
+-- turned: a cell with one entry put in or taken out.
+-- CellFinding: where the cell of an entry stands or belongs.
 use Rattle.std.specs.Prelude.{◌≡◌, ℕ, ◌+◌, ◌/◌, ◌%◌, ◌^◌, ◌<◌, ◌≤◌, Bool, true, cond, ◌&&◌, List, [], ◌∷◌, length, take, drop, Ok, Err, Result, ◌==◌, nat_lt, slice_index_or}
+use lib.Bits.{bit_xor}
 use Rattle.std.specs.List.{flat_map, list_all, AllByRecursion}
 use Rattle.rights.specs.declared.entries.Entry.{Entry}
 use Rattle.rights.specs.declared.vocabulary.Right.{Right}
 use Rattle.rights.specs.Bits.{bit, rows}
-use Rattle.rights.specs.Entries.{Then, Proper, then_test}
-use Rattle.rights.specs.Lists.{Rising}
+use Rattle.rights.specs.Entries.{Then, then_test}
 use Rattle.book.specs.declared.keyed.Cell.{Cell}
 
 -- bit k of the map m is set
@@ -53,6 +54,10 @@ unfoldable pub counted_on : ℕ → List Cell → List Cell
 counted_on n [] = []
 counted_on n (c ∷ cs) = recounted c n ∷ counted_on (n + length (unpacked c)) cs
 
+-- the cell with the bit of a right turned
+abbrev pub turned : Cell → Right → Cell
+turned c r = record { subject = c.subject; table = c.table; grantor = c.grantor; rights = bit_xor c.rights (2 ^ bit r); earlier = c.earlier }
+
 -- an empty cell with the key of an entry
 abbrev pub key_cell : Entry → Cell
 key_cell e = record { subject = e.subject; table = e.table; grantor = e.grantor; rights = 0; earlier = 0 }
@@ -61,10 +66,3 @@ key_cell e = record { subject = e.subject; table = e.table; grantor = e.grantor;
 abbrev pub CellFinding : Entry → List Cell → Result ℕ ℕ → Type 0
 CellFinding e cs (Ok k) = (k < length cs) × (e ≡ entry_of (slice_index_or cs k (key_cell e)) e.right)
 CellFinding e cs (Err k) = (k ≤ length cs) × AllByRecursion (λ c. KeyBefore c (key_cell e)) (take k cs) × AllByRecursion (KeyBefore (key_cell e)) (drop k cs)
-
--- a list of cells that a book with that ceiling can have
-pub record Orderly (cs : List Cell) (most : ℕ) : Type 0 where
-  pub climbing : Rising KeyBefore cs
-  pub proper : AllByRecursion Proper (held cs)
-  pub filled : AllByRecursion (λ c. 0 < length (unpacked c)) cs
-  pub few : length (held cs) ≤ most

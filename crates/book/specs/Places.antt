@@ -1,9 +1,9 @@
 -- Where an element stands or belongs in a list.
--- Parts: the place that parts what lies below from the rest. Falling: below such a place all lies below.
--- Stands: an entry stands at a place. Fitting: it may be put there. Finding: where it stands, or its place.
+-- Parts: the place that parts what lies below from the rest.
+-- Stands: an entry stands at a place. Finding: where it stands, or its place.
 use Rattle.std.specs.Prelude.{◌≡◌, ℕ, ◌<◌, ◌≤◌, List, length, Ok, Err, Result, slice_index_or}
 use Rattle.rights.specs.declared.entries.Entry.{Entry}
-use Rattle.rights.specs.Entries.{Before, Proper}
+use Rattle.rights.specs.Entries.{Before}
 use Rattle.rights.specs.Lists.{In}
 
 -- the first k elements lie below, and no other does
@@ -12,10 +12,6 @@ pub record Parts {X : Type 0} (Low : X → Type 0) (xs : List X) (k : ℕ) : Typ
   pub below : (i : ℕ) (d : X) → i < k → Low (slice_index_or xs i d)
   pub above : (i : ℕ) (d : X) → k ≤ i → i < length xs → Low (slice_index_or xs i d) → ⊥
 
--- what stands before an element that lies below lies below too
-abbrev pub Falling : {X : Type 0} → (X → Type 0) → List X → Type 0
-Falling {X} Low xs = (i j : ℕ) (d : X) → i < j → j < length xs → Low (slice_index_or xs j d) → Low (slice_index_or xs i d)
-
 abbrev pub Stands : Entry → List Entry → ℕ → Type 0
 Stands e es k = (k < length es) × (slice_index_or es k e ≡ e)
 
@@ -23,10 +19,3 @@ Stands e es k = (k < length es) × (slice_index_or es k e ≡ e)
 abbrev pub Finding : Entry → List Entry → Result ℕ ℕ → Type 0
 Finding e es (Ok k) = Stands e es k
 Finding e es (Err k) = (In e es → ⊥) × Parts (λ f. Before f e) es k
-
--- e is proper and stands nowhere, k is its place, and there is room below the ceiling
-pub record Fitting (es : List Entry) (most : ℕ) (e : Entry) (k : ℕ) : Type 0 where
-  pub proper : Proper e
-  pub new : In e es → ⊥
-  pub place : Parts (λ f. Before f e) es k
-  pub room : length es < most

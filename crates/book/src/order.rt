@@ -1,12 +1,13 @@
-// The bit number of a right, looked up in a stored list, and which of two entries comes first.
-ghost use Rattle.std.specs.Prelude.{◌≡◌, ◌<◌, Decides};
+// The stored list of the thirty-two rights by bit number, and which entries a book may hold.
+ghost use Rattle.std.specs.Prelude.{◌≡◌, MatchResult};
+ghost use Rattle.rights.specs.declared.faults.BookFault.TheVariants.{BadNumber};
 ghost use Rattle.rights.specs.Bits.{bit};
-ghost use Rattle.rights.specs.Entries.{Before, Proper};
+ghost use Rattle.rights.specs.Entries.{Proper};
 
-use rights::{Entry, Kind, Privilege, Rank, Right, Sign, Strength};
+use rights::{BookFault, Entry, Kind, Privilege, Rank, Right, Sign, Strength};
 
-// Row k is the right with bit number k.
-const ROWS: [Right; 32] = [
+// Row k is the right with bit number k. That all thirty-two are stored is a form of this project.
+pub(crate) const ROWS: [Right; 32] = [
     Right::Access(Privilege::Select, Sign::Plus, Strength::Weak),
     Right::Access(Privilege::Select, Sign::Plus, Strength::Strong),
     Right::Access(Privilege::Select, Sign::Minus, Strength::Weak),
@@ -41,50 +42,21 @@ const ROWS: [Right; 32] = [
     Right::Admin(Privilege::Update, Kind::Administer, Rank::Strong),
 ];
 
-// The right with a bit number.
-pub(crate) fn row(k: u8) -> Right
-    requires { k < 32 }
-    ensures { bit result ≡ k }
-{
-    ROWS[k as usize]
-}
-
-fn same_right(r: Right, q: Right) -> bool
-    ensures { Decides result (r ≡ q) }
-{
-    r == q
-}
-
 // The number of the row that a right stands in.
-pub(crate) fn bit_number(right: Right) -> u8
+pub(crate) fn bit_number(right: Right) -> usize
     ensures { result ≡ bit right }
 {
-    let mut k = 0;
-    while !same_right(row(k), right) {
-        k += 1;
-    }
-    k
+    ROWS.partition_point(|row| *row < right)
 }
 
-// Every number of the entry is in its range.
-pub(crate) fn proper(e: &Entry) -> bool
-    ensures { Decides result (Proper e.now) }
+// Refuses an entry that has a number out of its range.
+pub(crate) fn in_range(e: &Entry) -> Result<(), BookFault>
+    ensures { MatchResult result (λ _. Proper e.now)
+        (λ fault. (fault ≡ BadNumber) × (Proper e.now → ⊥)) }
 {
-    e.subject != 0 && e.table <= 127 && e.grantor != 0
-}
-
-// Entries are ordered by subject, table, grantor and bit number.
-pub(crate) fn precedes(e: &Entry, f: &Entry) -> bool
-    ensures { Decides result (Before e.now f.now) }
-{
-    if e.subject != f.subject {
-        return e.subject < f.subject;
+    if e.subject != 0 && e.table <= 127 && e.grantor != 0 {
+        Ok(())
+    } else {
+        Err(BookFault::BadNumber)
     }
-    if e.table != f.table {
-        return e.table < f.table;
-    }
-    if e.grantor != f.grantor {
-        return e.grantor < f.grantor;
-    }
-    bit_number(e.right) < bit_number(f.right)
 }

@@ -1,29 +1,26 @@
-// The cell book: one cell for each subject, table and grantor that has an entry, in the caller's list.
+// The cell book, in the caller's list: one cell for each subject, table and grantor that has an entry.
 ghost use Rattle.std.specs.Prelude.{◌≡◌, ◌≤◌, true, length};
 ghost use Rattle.rights.specs.Entries.{sound};
 ghost use Rattle.book.specs.Cells.{held, climbs, numbered};
-ghost use Rattle.book.specs.Stores.{stored, Backed};
+ghost use Rattle.rising.specs.Fronts.{stored, whole};
 
 use crate::keyed::Cell;
-use crate::store::Store;
+use rising::Front;
 
 mod calls;
 mod counts;
 mod entries;
-mod shifts;
 
-// What is stored are the cells, and they hold `count` entries.
+/// A book of cells, one for each subject, table and grantor that has an entry.
+// What is stored are the cells; there is room for the ceiling.
 #[derive(Drop)]
 pub struct Cells<'a> {
-    store: Store<'a, Cell>,
-    count: usize,
+    front: Front<'a, Cell>,
     ceiling: usize,
-    ghost counted: { count ≤ ceiling },
-    ghost room: { ceiling ≤ length store.list.now },
+    ghost counted: { length (held (stored front)) ≤ ceiling },
+    ghost room: { ceiling ≤ length (whole front) },
     ghost limited: { ceiling ≤ 4096 },
-    ghost inside: { Backed store },
-    ghost rises: { sound (held (stored store)) ≡ true },
-    ghost keys: { climbs (stored store) ≡ true },
-    ghost sums: { numbered 0 (stored store) ≡ true },
-    ghost total: { count ≡ length (held (stored store)) },
+    ghost rises: { sound (held (stored front)) ≡ true },
+    ghost keys: { climbs (stored front) ≡ true },
+    ghost sums: { numbered 0 (stored front) ≡ true },
 }

@@ -1,21 +1,21 @@
 // The plain book: one record for each entry, in their order, in the caller's list.
 ghost use Rattle.std.specs.Prelude.{◌≡◌, ◌≤◌, true, length};
 ghost use Rattle.rights.specs.Entries.{sound};
-ghost use Rattle.book.specs.Stores.{stored};
+ghost use Rattle.rising.specs.Fronts.{stored, whole};
 
-use crate::store::Store;
 use rights::Entry;
+use rising::Front;
 
 mod calls;
-mod places;
 
+/// A book of records, one for each entry.
 // What is stored are the entries; there is room for the ceiling.
 #[derive(Drop)]
 pub struct Plain<'a> {
-    store: Store<'a, Entry>,
+    front: Front<'a, Entry>,
     ceiling: usize,
-    ghost counted: { store.used ≤ ceiling },
-    ghost room: { ceiling ≤ length store.list.now },
+    ghost counted: { length (stored front) ≤ ceiling },
+    ghost room: { ceiling ≤ length (whole front) },
     ghost limited: { ceiling ≤ 4096 },
-    ghost rises: { sound (stored store) ≡ true },
+    ghost rises: { sound (stored front) ≡ true },
 }

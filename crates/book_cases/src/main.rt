@@ -5,10 +5,15 @@ mod steps;
 mod trial;
 
 use book::{Cell, Cells, Plain};
-use rights::{Entry, Privilege, Right, Sign, Strength};
+use rights::{BookFault, Entry, Privilege, Right, Sign, Strength};
 use std::io;
-use steps::{number, run};
+use steps::run;
 use trial::first_with;
+
+// The number that a refusal is told by, 0 where nothing is refused.
+fn number(answer: Result<(), BookFault>) -> u8 {
+    answer.err().map_or(0, |fault| fault.number())
+}
 
 fn main(rt: HostRuntime) -> io::Result<()> {
     let blank = Entry {
@@ -17,6 +22,7 @@ fn main(rt: HostRuntime) -> io::Result<()> {
         grantor: 0,
         right: Right::Access(Privilege::Select, Sign::Plus, Strength::Weak),
     };
+    // the lists that the books borrow, as a host lends them
     let mut records = [blank; 24];
     let mut cells = [Cell {
         subject: 0,
@@ -33,14 +39,11 @@ fn main(rt: HostRuntime) -> io::Result<()> {
     let mut plain = Plain::new(&mut records, 20);
     let mut packed = Cells::new(&mut cells, 20);
     let tally = run(&mut plain, &mut packed, 4000);
-    let agreed = tally.agreed;
-    let done = tally.done;
-    let bad = tally.bad;
-    let taken = tally.taken;
-    let absent = tally.absent;
-    let full = tally.full;
-    println!(rt; "agreed {agreed}, done {done}")?;
-    println!(rt; "refused: bad number {bad}, taken {taken}, absent {absent}, full {full}")?;
+    println!(rt; "agreed {}, done {}", tally.agreed, tally.done)?;
+    println!(rt;
+        "refused: bad number {}, taken {}, absent {}, full {}",
+        tally.bad, tally.taken, tally.absent, tally.full
+    )?;
     let probe = Entry {
         subject: 1,
         table: 0,

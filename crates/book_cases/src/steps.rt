@@ -1,9 +1,11 @@
 // Steps drawn by a generator that gives the same numbers in every run.
+ghost use Rattle.std.specs.Prelude.{◌<◌};
+
 use book::Book;
 use rights::{BookFault, Entry, Kind, Privilege, Rank, Right, Sign, Strength};
 
 // How many steps came out alike on both books, and how each came out.
-#[derive(Clone, Copy)]
+#[derive(Clone, Copy, Default)]
 pub struct Tally {
     pub agreed: u32,
     pub done: u32,
@@ -15,6 +17,13 @@ pub struct Tally {
 
 fn drawn(seed: u32) -> u32 {
     seed.wrapping_mul(1664525).wrapping_add(1013904223)
+}
+
+// The eight bits of n from a place on.
+fn byte(n: u32, place: u32) -> u8
+    requires { place < 32 }
+{
+    (n >> place).to_le_bytes()[0]
 }
 
 fn privilege_of(n: u32) -> Privilege {
@@ -31,110 +40,80 @@ fn right_of(n: u32) -> Right {
     let strong = n >> 1 & 1 == 1;
     let second = n >> 2 & 1 == 1;
     if n & 1 == 1 {
+        let sign = if second { Sign::Minus } else { Sign::Plus };
         let strength = if strong {
             Strength::Strong
         } else {
             Strength::Weak
         };
-        Right::Access(p, if second { Sign::Minus } else { Sign::Plus }, strength)
+        Right::Access(p, sign, strength)
     } else {
+        let kind = if second {
+            Kind::Administer
+        } else {
+            Kind::AdmAccess
+        };
         let rank = if strong { Rank::Strong } else { Rank::Weak };
-        Right::Admin(
-            p,
-            if second {
-                Kind::Administer
-            } else {
-                Kind::AdmAccess
-            },
-            rank,
-        )
+        Right::Admin(p, kind, rank)
     }
 }
 
 // Subject 0 to 2, table 126 to 128, grantor 0 to 2: some are out of range.
 fn entry_of(n: u32) -> Entry {
     Entry {
-        subject: (n >> 8 & 255) as u8 % 3,
-        table: 126 + (n >> 13 & 255) as u8 % 3,
-        grantor: (n >> 18 & 255) as u8 % 3,
+        subject: byte(n, 8) % 3,
+        table: 126 + byte(n, 13) % 3,
+        grantor: byte(n, 18) % 3,
         right: right_of(n >> 23),
     }
 }
 
 // Both books have the same entries at all places.
 fn alike<A: Book, B: Book>(a: &A, b: &B) -> bool {
-    if a.count() != b.count() {
-        return false;
-    }
-    for k in 0..a.count() {
-        let (Some(e), Some(f)) = (a.at(k), b.at(k)) else {
-            return false;
+    a.count() == b.count()
+        && (0..a.count()).all(|k| {
+            a.at(k)
+                .zip(b.at(k))
+                .is_some_and(|(e, f)| e == f && a.holds(f) && b.holds(e))
+        })
+}
+
+impl Tally {
+    fn count(&mut self, answer: Result<(), BookFault>, agreed: bool) {
+        let outcome = match answer {
+            Ok(()) => &mut self.done,
+            Err(BookFault::BadNumber) => &mut self.bad,
+            Err(BookFault::Taken) => &mut self.taken,
+            Err(BookFault::Absent) => &mut self.absent,
+            Err(_) => &mut self.full,
         };
-        if e != f || !a.holds(f) || !b.holds(e) {
-            return false;
+        *outcome = outcome.wrapping_add(1);
+        if agreed {
+            self.agreed = self.agreed.wrapping_add(1);
         }
     }
-    true
-}
 
-// The refusal's number, 0 where nothing was refused.
-pub(crate) fn number(r: Result<(), BookFault>) -> u8 {
-    match r {
-        Ok(()) => 0,
-        Err(fault) => fault.number(),
+    // One step on both books: a put, a taking of what was drawn, or one of what stands.
+    fn step<A: Book, B: Book>(&mut self, a: &mut A, b: &mut B, n: u32) {
+        let e = entry_of(n);
+        let (x, y) = match n >> 6 & 3 {
+            0 => (a.take(e), b.take(e)),
+            1 => {
+                let f = a.at(usize::from(byte(n, 18) % 32)).unwrap_or(e);
+                (a.take(f), b.take(f))
+            }
+            _ => (a.put(e), b.put(e)),
+        };
+        self.count(x, x == y && alike(a, b));
     }
-}
-
-fn counted(tally: Tally, answer: u8, agreed: bool) -> Tally {
-    let mut t = tally;
-    match answer {
-        0 => t.done = t.done.wrapping_add(1),
-        3 => t.bad = t.bad.wrapping_add(1),
-        7 => t.taken = t.taken.wrapping_add(1),
-        8 => t.absent = t.absent.wrapping_add(1),
-        _ => t.full = t.full.wrapping_add(1),
-    }
-    if agreed {
-        t.agreed = t.agreed.wrapping_add(1);
-    }
-    t
-}
-
-// The entry at a place that was drawn, or else the one drawn.
-fn standing_or<A: Book>(a: &A, n: u32, e: Entry) -> Entry {
-    match a.at((n >> 18 & 31) as usize) {
-        Some(f) => f,
-        None => e,
-    }
-}
-
-// One step on both books: a put, a taking of what was drawn, or one of what stands.
-fn step<A: Book, B: Book>(a: &mut A, b: &mut B, n: u32, tally: Tally) -> Tally {
-    let e = entry_of(n);
-    let (x, y) = if n >> 6 & 3 == 0 {
-        (number(a.take(e)), number(b.take(e)))
-    } else if n >> 6 & 3 == 1 {
-        let f = standing_or(a, n, e);
-        (number(a.take(f)), number(b.take(f)))
-    } else {
-        (number(a.put(e)), number(b.put(e)))
-    };
-    counted(tally, x, x == y && alike(a, b))
 }
 
 pub(crate) fn run<A: Book, B: Book>(a: &mut A, b: &mut B, steps: usize) -> Tally {
-    let mut tally = Tally {
-        agreed: 0,
-        done: 0,
-        bad: 0,
-        taken: 0,
-        absent: 0,
-        full: 0,
-    };
+    let mut tally = Tally::default();
     let mut seed = 2024;
     for _ in 0..steps {
         seed = drawn(seed);
-        tally = step(a, b, seed, tally);
+        tally.step(a, b, seed);
     }
     tally
 }

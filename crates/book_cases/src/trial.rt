@@ -9,10 +9,7 @@ pub(crate) fn first_with<B: Book>(book: &mut B, e: Entry) -> Option<Entry>
     ensures same { B.Book.entries book.new ≡ B.Book.entries book.old }
     ensures ceiling { B.Book.most book.new ≡ B.Book.most book.old }
 {
-    if book.holds(e) {
-        return book.at(0);
-    }
-    if book.put(e).is_err() {
+    if book.holds(e) || book.put(e).is_err() {
         return book.at(0);
     }
     let first = book.at(0);

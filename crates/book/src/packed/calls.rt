@@ -1,51 +1,47 @@
 // The calls of the cell book.
-ghost use Rattle.std.specs.Prelude.{◌≡◌, [], length, is_ok, if◌then◌else◌};
+ghost use Rattle.std.specs.Prelude.{◌≡◌, [], length};
 ghost use Rattle.rights.specs.Checks.{First, fault_of};
-ghost use Rattle.book.specs.Effects.{with_entry, without_entry, put_checks, take_checks, make_checks, Ceiling};
-ghost use Rattle.book.specs.Packing.{packed, cell_laws};
-ghost use Rattle.book.specs.Stores.{SameRest};
+ghost use Rattle.book.specs.Effects.{make_checks, Ceiling};
+ghost use Rattle.book.specs.Packing.{packed, most_packed, list_packed, SameRest, cell_laws};
 
 use crate::keyed::Cell;
-use crate::making::{ceiling, check_room};
-use crate::meaning::Book;
-use crate::order::proper;
+use crate::meaning::{Book, LIMIT};
+use crate::order::in_range;
 use crate::packed::Cells;
-use crate::store::Store;
 use rights::{BookFault, Entry};
+use rising::{Front, ceiling, check_room};
 
 impl<'a> Cells<'a> {
-    // Refuses a list shorter than the ceiling wanted, and a ceiling of 0 or above 4,096.
+    /// Refuses a list shorter than the ceiling wanted, and a ceiling of 0 or above 4,096.
     pub fn check(list: &[Cell], wanted: usize) -> Result<(), BookFault>
         ensures { First (make_checks (length list.now) wanted) (fault_of result) }
     {
-        check_room(list.len(), wanted)
+        Ok(check_room(list.len(), wanted, LIMIT)?)
     }
 
-    // An empty book over the list, with the ceiling wanted, or with ceiling 0 where the check refuses.
+    /// An empty book over the list, with the ceiling wanted, or 0 where the check refuses.
     pub fn new(list: &'a mut [Cell], wanted: usize) -> Cells<'a>
         ensures empty { packed result ≡ [] }
-        ensures ceiling { Ceiling (length list.old) wanted result.ceiling }
-        ensures untouched { result.store.list.now ≡ list.old }
+        ensures ceiling { Ceiling (length list.old) wanted (most_packed result) }
+        ensures untouched { list_packed result ≡ list.old }
     {
-        let ceiling = ceiling(list.len(), wanted);
-        let store = Store { list, used: 0 };
-        Cells {
-            store,
-            count: 0,
-            ceiling,
-        }
+        let ceiling = ceiling(list.len(), wanted, LIMIT);
+        let front = Front::over(list);
+        Cells { front, ceiling }
     }
 }
 
 impl Book for Cells<'_> {
     ghost entries = { packed };
 
-    ghost most = { λ b. b.ceiling };
+    ghost most = { most_packed };
+
+    ghost leaves_rest = { SameRest };
 
     ghost laws = { cell_laws };
 
     fn count(&self) -> usize {
-        self.count
+        self.held_count()
     }
 
     fn ceiling(&self) -> usize {
@@ -53,47 +49,25 @@ impl Book for Cells<'_> {
     }
 
     fn holds(&self, e: Entry) -> bool {
-        match self.cell_of(e) {
-            Ok(i) => self.stands_in(i, e),
-            Err(_) => false,
-        }
+        let cells = self.front.as_slice();
+        self.cell_of(e).is_ok_and(|i| cells[i].holds(e.right))
     }
 
     fn at(&self, k: usize) -> Option<Entry> {
-        if k < self.count {
-            Some(self.entry(k))
-        } else {
-            None
-        }
+        self.entry(k)
     }
 
-    fn put(&mut self, e: Entry) -> Result<(), BookFault>
-        ensures refuses { First (put_checks (packed self.old) self.old.ceiling e) (fault_of result) }
-        ensures after { packed self.new ≡ (if is_ok result then with_entry e (packed self.old) else packed self.old) }
-        ensures ceiling { self.new.ceiling ≡ self.old.ceiling }
-        ensures rest { SameRest self.old.store self.new.store }
-    {
-        if !proper(&e) {
-            return Err(BookFault::BadNumber);
-        }
+    fn put(&mut self, e: Entry) -> Result<(), BookFault> {
+        in_range(&e)?;
         match self.cell_of(e) {
             Ok(i) => self.put_into(i, e),
             Err(i) => self.put_new(i, e),
         }
     }
 
-    fn take(&mut self, e: Entry) -> Result<(), BookFault>
-        ensures refuses { First (take_checks (packed self.old) e) (fault_of result) }
-        ensures after { packed self.new ≡ (if is_ok result then without_entry e (packed self.old) else packed self.old) }
-        ensures ceiling { self.new.ceiling ≡ self.old.ceiling }
-        ensures rest { SameRest self.old.store self.new.store }
-    {
-        if !proper(&e) {
-            return Err(BookFault::BadNumber);
-        }
-        match self.cell_of(e) {
-            Ok(i) => self.take_from(i, e),
-            Err(_) => Err(BookFault::Absent),
-        }
+    fn take(&mut self, e: Entry) -> Result<(), BookFault> {
+        in_range(&e)?;
+        let i = self.cell_of(e).ok().ok_or(BookFault::Absent)?;
+        self.take_from(i, e)
     }
 }

@@ -1,43 +1,33 @@
 // The running counts of cells.
 ghost use Rattle.std.specs.Prelude.{◌≡◌, ◌≤◌, true, length, take};
 ghost use Rattle.book.specs.Cells.{held, numbered, counted_on};
-ghost use Rattle.book.specs.Stores.{stored, Backed, Refilled};
+ghost use Rattle.rising.specs.Fronts.{stored, Refilled};
 
 use crate::keyed::Cell;
-use crate::store::Store;
+use rising::Front;
 
-impl Store<'_, Cell> {
-    // How many entries the first i cells hold.
-    fn held_before(&self, i: usize) -> usize
-        requires inside { Backed self.now }
-        requires place { i ≤ self.now.used }
-        requires counted { numbered 0 (take i (stored self.now)) ≡ true }
-        requires few { length (held (stored self.now)) ≤ 4096 }
-        ensures { result ≡ length (held (take i (stored self.now))) }
-    {
-        if i == 0 {
-            return 0;
-        }
-        let last = self.list[i - 1];
-        last.earlier + last.size()
-    }
+// How many entries the cells hold: the last one tells.
+pub(crate) fn held_by(cells: &[Cell]) -> usize
+    requires counted { numbered 0 cells.now ≡ true }
+    requires few { length (held cells.now) ≤ 4096 }
+    ensures { result ≡ length (held cells.now) }
+{
+    cells.last().map_or(0, |last| last.earlier + last.size())
+}
 
-    // Counts anew from cell i on, and tells how many entries all cells hold.
-    pub(crate) fn recount(&mut self, i: usize) -> usize
-        requires inside { Backed self.old }
-        requires place { i ≤ self.old.used }
-        requires counted { numbered 0 (take i (stored self.old)) ≡ true }
-        requires few { length (held (stored self.old)) ≤ 4096 }
-        ensures cells { Refilled self.old (counted_on 0 (stored self.old)) self.new }
-        ensures entries { result ≡ length (held (stored self.old)) }
-    {
-        let mut count = self.held_before(i);
-        for k in i..self.used {
-            let mut cell = self.list[k];
-            cell.earlier = count;
-            count += cell.size();
-            self.list[k] = cell;
-        }
-        count
+// Counts anew from cell i on.
+pub(crate) fn recount(front: &mut Front<Cell>, i: usize)
+    requires place { i ≤ length (stored front.old) }
+    requires counted { numbered 0 (take i (stored front.old)) ≡ true }
+    requires few { length (held (stored front.old)) ≤ 4096 }
+    ensures { Refilled front.old (counted_on 0 (stored front.old)) front.new }
+{
+    let mut count = held_by(&front.as_slice()[..i]);
+    // By place, since after `iter_mut` a proof knows how many cells there are, and none of them.
+    for k in i..front.len() {
+        let mut cell = front.as_slice()[k];
+        cell.earlier = count;
+        count += cell.size();
+        front.replace(k, cell);
     }
 }

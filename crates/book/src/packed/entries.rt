@@ -1,46 +1,42 @@
 // How a cell book looks its entries up, and puts and takes them.
-ghost use Rattle.std.specs.Prelude.{◌≡◌, ◌<◌, is_ok, if◌then◌else◌, Some, Ok, Err, Decides};
+ghost use Rattle.std.specs.Prelude.{◌≡◌, Ok, Err, OnOk, OnErr, IsTrue, ◌↔◌, length};
 ghost use Rattle.std.specs.List.{slice_get};
 ghost use Rattle.rights.specs.Checks.{First, fault_of};
 ghost use Rattle.rights.specs.Entries.{Proper};
 ghost use Rattle.rights.specs.Lists.{In};
 ghost use Rattle.book.specs.Cells.{CellFinding};
 ghost use Rattle.book.specs.Effects.{with_entry, without_entry, put_checks, take_checks};
-ghost use Rattle.book.specs.Packing.{cells, packed};
-ghost use Rattle.book.specs.Stores.{SameRest};
+ghost use Rattle.book.specs.Packing.{cells, packed, most_packed, Becomes};
 
-use crate::keyed::Cell;
-use crate::maps::find_cell;
-use crate::order::bit_number;
+use crate::keyed::{Cell, Key};
 use crate::packed::Cells;
-use crate::places::place;
+use crate::packed::counts::{held_by, recount};
 use rights::{BookFault, Entry};
 
 impl Cells<'_> {
+    // How many entries the cells hold.
+    pub(crate) fn held_count(&self) -> usize
+        ensures { result ≡ length (packed self.now) }
+    {
+        held_by(self.front.as_slice())
+    }
+
     // The place of the cell that has the key of e, or else the place where one would belong.
     pub(crate) fn cell_of(&self, e: Entry) -> Result<usize, usize>
         ensures { CellFinding e (cells self.now) result }
     {
-        find_cell(self.store.front(), e)
+        let key = Key::from(e);
+        self.front
+            .as_slice()
+            .binary_search_by_key(&key, |cell| cell.key())
     }
 
-    // Whether e stands in the cell at place i, which has its key.
-    pub(crate) fn stands_in(&self, i: usize, e: Entry) -> bool
-        requires { CellFinding e (cells self.now) (Ok i) }
-        ensures { Decides result (In e (packed self.now)) }
+    // The entry at place k: the last cell that starts there or before has it, if any has.
+    pub(crate) fn entry(&self, k: usize) -> Option<Entry>
+        ensures { result ≡ slice_get (packed self.now) k }
     {
-        let cell = self.store.list[i];
-        cell.is_set(bit_number(e.right))
-    }
-
-    // The entry at place k.
-    pub(crate) fn entry(&self, k: usize) -> Entry
-        requires { k < self.now.count }
-        ensures { slice_get (packed self.now) k ≡ Some result }
-    {
-        let cells = self.store.front();
-        let after = place(cells, &k);
-        let cell = cells[after - 1];
+        let cells = self.front.as_slice();
+        let cell = cells[..cells.partition_point(|cell| cell.earlier <= k)].last()?;
         cell.entry_at(k - cell.earlier)
     }
 
@@ -48,21 +44,20 @@ impl Cells<'_> {
     pub(crate) fn put_into(&mut self, i: usize, e: Entry) -> Result<(), BookFault>
         requires cell { CellFinding e (cells self.old) (Ok i) }
         requires proper { Proper e }
-        ensures refuses { First (put_checks (packed self.old) self.old.ceiling e) (fault_of result) }
-        ensures after { packed self.new ≡ (if is_ok result then with_entry e (packed self.old) else packed self.old) }
-        ensures ceiling { self.new.ceiling ≡ self.old.ceiling }
-        ensures rest { SameRest self.old.store self.new.store }
+        ensures refuses { First (put_checks (packed self.old) (most_packed self.old) e)
+            (fault_of result) }
+        ensures put { OnOk result (Becomes self.old (with_entry e (packed self.old)) self.new) }
+        ensures unchanged { OnErr result (self.new ≡ self.old) }
     {
-        let k = bit_number(e.right);
-        let mut cell = self.store.list[i];
-        if cell.is_set(k) {
+        let cell = self.front.as_slice()[i];
+        if cell.holds(e.right) {
             return Err(BookFault::Taken);
         }
-        if self.count == self.ceiling {
+        if self.held_count() == self.ceiling {
             return Err(BookFault::Full);
         }
-        cell.rights ^= 1 << k;
-        self.write(i, cell);
+        self.front.replace(i, cell.turned(e.right));
+        recount(&mut self.front, i);
         Ok(())
     }
 
@@ -70,46 +65,41 @@ impl Cells<'_> {
     pub(crate) fn put_new(&mut self, i: usize, e: Entry) -> Result<(), BookFault>
         requires cell { CellFinding e (cells self.old) (Err i) }
         requires proper { Proper e }
-        ensures refuses { First (put_checks (packed self.old) self.old.ceiling e) (fault_of result) }
-        ensures after { packed self.new ≡ (if is_ok result then with_entry e (packed self.old) else packed self.old) }
-        ensures ceiling { self.new.ceiling ≡ self.old.ceiling }
-        ensures rest { SameRest self.old.store self.new.store }
+        ensures refuses { First (put_checks (packed self.old) (most_packed self.old) e)
+            (fault_of result) }
+        ensures put { OnOk result (Becomes self.old (with_entry e (packed self.old)) self.new) }
+        ensures unchanged { OnErr result (self.new ≡ self.old) }
     {
-        if self.count == self.ceiling {
+        if self.held_count() == self.ceiling {
             return Err(BookFault::Full);
         }
-        let k = bit_number(e.right);
-        let cell = Cell {
-            subject: e.subject,
-            table: e.table,
-            grantor: e.grantor,
-            rights: 1 << k,
-            earlier: 0,
-        };
-        self.insert(i, cell);
+        self.front
+            .insert(i, Cell::empty(e).turned(e.right))
+            .map_err(|_| BookFault::Full)?;
+        recount(&mut self.front, i);
         Ok(())
     }
 
     // Takes e from the cell at place i, which has its key; an emptied cell goes.
+    // Not one function with `put_into`, which asks for the other bit and the ceiling, and empties none.
     pub(crate) fn take_from(&mut self, i: usize, e: Entry) -> Result<(), BookFault>
         requires cell { CellFinding e (cells self.old) (Ok i) }
         requires proper { Proper e }
         ensures refuses { First (take_checks (packed self.old) e) (fault_of result) }
-        ensures after { packed self.new ≡ (if is_ok result then without_entry e (packed self.old) else packed self.old) }
-        ensures ceiling { self.new.ceiling ≡ self.old.ceiling }
-        ensures rest { SameRest self.old.store self.new.store }
+        ensures taken { OnOk result
+            (Becomes self.old (without_entry e (packed self.old)) self.new) }
+        ensures unchanged { OnErr result (self.new ≡ self.old) }
     {
-        let k = bit_number(e.right);
-        let mut cell = self.store.list[i];
-        if !cell.is_set(k) {
+        let cell = self.front.as_slice()[i];
+        if !cell.holds(e.right) {
             return Err(BookFault::Absent);
         }
         if cell.size() == 1 {
-            self.remove(i);
-            return Ok(());
+            self.front.remove(i);
+        } else {
+            self.front.replace(i, cell.turned(e.right));
         }
-        cell.rights ^= 1 << k;
-        self.write(i, cell);
+        recount(&mut self.front, i);
         Ok(())
     }
 }

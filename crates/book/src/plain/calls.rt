@@ -1,45 +1,55 @@
 // The calls of the plain book.
-ghost use Rattle.std.specs.Prelude.{◌≡◌, [], length, is_ok, if◌then◌else◌};
+ghost use Rattle.std.specs.Prelude.{◌≡◌, [], length};
 ghost use Rattle.rights.specs.Checks.{First, fault_of};
-ghost use Rattle.book.specs.Effects.{with_entry, without_entry, put_checks, take_checks, make_checks, Ceiling};
-ghost use Rattle.book.specs.Standing.{standing, plain_laws};
-ghost use Rattle.book.specs.Stores.{SameRest};
+ghost use Rattle.book.specs.Effects.{make_checks, Ceiling};
+ghost use Rattle.book.specs.Places.{Finding};
+ghost use Rattle.book.specs.Standing.{standing, most_standing, list_standing, SameRest, plain_laws};
 
-use crate::making::{ceiling, check_room};
-use crate::meaning::Book;
+use crate::meaning::{Book, LIMIT};
+use crate::order::in_range;
 use crate::plain::Plain;
-use crate::store::Store;
 use rights::{BookFault, Entry};
+use rising::{Front, ceiling, check_room};
 
 impl<'a> Plain<'a> {
-    // Refuses a list shorter than the ceiling wanted, and a ceiling of 0 or above 4,096.
+    /// Refuses a list shorter than the ceiling wanted, and a ceiling of 0 or above 4,096.
     pub fn check(list: &[Entry], wanted: usize) -> Result<(), BookFault>
         ensures { First (make_checks (length list.now) wanted) (fault_of result) }
     {
-        check_room(list.len(), wanted)
+        Ok(check_room(list.len(), wanted, LIMIT)?)
     }
 
-    // An empty book over the list, with the ceiling wanted, or with ceiling 0 where the check refuses.
+    /// An empty book over the list, with the ceiling wanted, or 0 where the check refuses.
     pub fn new(list: &'a mut [Entry], wanted: usize) -> Plain<'a>
         ensures empty { standing result ≡ [] }
-        ensures ceiling { Ceiling (length list.old) wanted result.ceiling }
-        ensures untouched { result.store.list.now ≡ list.old }
+        ensures ceiling { Ceiling (length list.old) wanted (most_standing result) }
+        ensures untouched { list_standing result ≡ list.old }
     {
-        let ceiling = ceiling(list.len(), wanted);
-        let store = Store { list, used: 0 };
-        Plain { store, ceiling }
+        // as in a cell book: what both share is `rising`'s, and each makes its own type of it
+        let ceiling = ceiling(list.len(), wanted, LIMIT);
+        let front = Front::over(list);
+        Plain { front, ceiling }
+    }
+
+    // The place where e stands, or else the place where it belongs.
+    fn place_of(&self, e: Entry) -> Result<usize, usize>
+        ensures { Finding e (standing self.now) result }
+    {
+        self.front.as_slice().binary_search(&e)
     }
 }
 
 impl Book for Plain<'_> {
     ghost entries = { standing };
 
-    ghost most = { λ b. b.ceiling };
+    ghost most = { most_standing };
+
+    ghost leaves_rest = { SameRest };
 
     ghost laws = { plain_laws };
 
     fn count(&self) -> usize {
-        self.store.used
+        self.front.len()
     }
 
     fn ceiling(&self) -> usize {
@@ -47,32 +57,26 @@ impl Book for Plain<'_> {
     }
 
     fn holds(&self, e: Entry) -> bool {
-        self.stands(e)
+        self.place_of(e).is_ok()
     }
 
     fn at(&self, k: usize) -> Option<Entry> {
-        self.store.at(k)
+        self.front.get(k)
     }
 
-    fn put(&mut self, e: Entry) -> Result<(), BookFault>
-        ensures refuses { First (put_checks (standing self.old) self.old.ceiling e) (fault_of result) }
-        ensures after { standing self.new ≡ (if is_ok result then with_entry e (standing self.old) else standing self.old) }
-        ensures ceiling { self.new.ceiling ≡ self.old.ceiling }
-        ensures rest { SameRest self.old.store self.new.store }
-    {
-        let k = self.place_for(e)?;
-        self.insert(k, e);
-        Ok(())
+    fn put(&mut self, e: Entry) -> Result<(), BookFault> {
+        in_range(&e)?;
+        let k = self.place_of(e).err().ok_or(BookFault::Taken)?;
+        if self.front.len() == self.ceiling {
+            return Err(BookFault::Full);
+        }
+        self.front.insert(k, e).map_err(|_| BookFault::Full)
     }
 
-    fn take(&mut self, e: Entry) -> Result<(), BookFault>
-        ensures refuses { First (take_checks (standing self.old) e) (fault_of result) }
-        ensures after { standing self.new ≡ (if is_ok result then without_entry e (standing self.old) else standing self.old) }
-        ensures ceiling { self.new.ceiling ≡ self.old.ceiling }
-        ensures rest { SameRest self.old.store self.new.store }
-    {
-        let k = self.place_with(e)?;
-        self.remove(k);
+    fn take(&mut self, e: Entry) -> Result<(), BookFault> {
+        in_range(&e)?;
+        let k = self.place_of(e).ok().ok_or(BookFault::Absent)?;
+        self.front.remove(k);
         Ok(())
     }
 }

@@ -1,24 +1,13 @@
-use Rattle.std.proofs.Common.{◌≡◌, ◌<◌, sym, refl, ap, ◌∙◌, arith}
-use Rattle.std.proofs.lemmas.Bool.{false≢true}
-use Rattle.rights.specs.Bits.{bit}
-use Rattle.rights.proofs.Bits.{bit_injective, bit_below}
+use Rattle.std.proofs.Common.{◌≡◌, ◌∙◌, ltb, rules, arith}
+use Rattle.std.specs.Ordering.{is_lt}
+use Rattle.std.proofs.lemmas.List.Sorted.{IsPartitionPoint-from_clause}
+use Rattle.rights.specs.Bits.{bit, rows}
+use Rattle.rights.specs.contracts.vocabulary.RightOrd.TheImpl as right_ord
+use Rattle.book.proofs.Table.{rows_parted, rows_below, is_below}
 use Rattle.book.proofs.order.bit_number.Goals as goal
 
--- a row with another right lies below the right's own
-further : (c : goal.In-loop-right) → c.loop-right.k < bit c.args.right
-further c =
-    let h = c.loop-right-test.ensures in
-    let other : bit c.args.right ≡ c.loop-right.k → ⊥ = λ e. false≢true (h.1 (bit_injective _ _ (c.row.ensures ∙ sym e))) in
-    omega arith
-
-pub row-requires : goal.row-requires
-row-requires c = let b = bit_below c.args.right in let h = c.loop-right.invariant in omega arith
-
-pub loop-right-smaller : goal.loop-right-smaller
-loop-right-smaller c = let h = further c in omega arith
-
-pub loop-right-preserved : goal.loop-right-preserved
-loop-right-preserved c = let h = further c in omega arith
-
 pub returns : goal.returns
-returns c = sym c.row.ensures ∙ ap bit (c.loop-right-test.ensures.0 refl)
+returns c =
+    let p = IsPartitionPoint-from_clause (λ r. ltb (bit r) (bit c.args.right)) rows c.partition_point.result c.partition_point.ensures.partitioned (rows_parted c.args.right)
+    (λ a r q k. let t : r ≡ is_lt ((right_ord.ghosts).cmp a.0.now c.args.right) = search rules in (t ∙ is_below _ _, search rules)) in
+    rows_below c.args.right _ p (omega (arith, c.partition_point.ensures.bound))

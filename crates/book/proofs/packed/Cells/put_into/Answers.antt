@@ -1,57 +1,40 @@
-use Rattle.std.proofs.Common.{◌≡◌, ◌<◌, length, sym, refl, ap, ◌∙◌, inl, inr, arith}
-use Rattle.std.proofs.lemmas.Bool.{false≢true}
-use Rattle.rights.specs.Checks.{First}
-use Rattle.book.specs.Cells.{has}
+use Rattle.std.proofs.Common.{sym, refl, ◌∙◌}
+use Rattle.book.specs.Effects.{with_entry}
 use Rattle.book.specs.Packing.{packed}
-use Rattle.rights.proofs.Bits.{bit_below}
-use Rattle.book.specs.declared.packed.Cells.{Cells}
-use Rattle.book.proofs.Packs.{inside, set_tells, put_written, put_writes}
+use Rattle.book.proofs.Packs.{Changed, set_stands, unset_absent, put_changed}
+use Rattle.book.proofs.Refused.{put_taken, put_full, put_done}
 use Rattle.book.proofs.packed.Cells.put_into.Goals as goal
 
--- the count is not the ceiling
-below : (b : Cells) → (b.count ≡ b.ceiling → ⊥) → length (packed b) < b.ceiling
-below b other = omega (arith, b.total, b.counted)
+pub returns-then-holds-clause-refuses : goal.returns-then-holds-clause-refuses
+returns-then-holds-clause-refuses c =
+    put_taken _ _ _ c.requires.proper (set_stands c.args.self.now c.args.e c.args.i c.requires.cell c.as_slice.result.now c.as_slice.ensures c.if-holds.ensures)
 
-pub is_set-requires : goal.is_set-requires
-is_set-requires c = let h = bit_below c.args.e.right in omega (arith, c.bit_number-k.ensures)
+pub returns-then-held_count-self-clause-refuses : goal.returns-then-held_count-self-clause-refuses
+returns-then-held_count-self-clause-refuses c =
+    let new = unset_absent c.args.self.now c.args.e c.args.i c.requires.cell c.as_slice.result.now c.as_slice.ensures c.if-holds.ensures in
+    put_full _ _ _ c.requires.proper new (sym c.held_count.ensures ∙ c.if-held_count-self.true)
 
-pub returns-then-is_set : goal.returns-then-is_set
-unfolding First
-returns-then-is_set c =
-    let set' = sym (c.if-is_set.ensures ∙ ap (has _) c.bit_number-k.ensures) in
-    record {
-      refuses = inr ((λ bad. bad c.requires.proper), inl ((set_tells c.args.self.now c.args.e c.args.i c.requires.cell).0 set', refl));
-      after = refl;
-      ceiling = refl;
-      rest = refl;
-    }
+-- the cell is put back with the bit of e set
+put : (c : goal.After-recount-arg-1) → Changed c.args.self.now (with_entry c.args.e (packed c.args.self.now)) c.args.i c.replace.new.self
+put c =
+    put_changed c.args.self.now c.args.e c.args.i c.requires.cell c.as_slice.result.now c.as_slice.ensures c.turned.result c.turned.ensures c.replace.result c.replace.ensures.gives c.replace.new.self c.replace.ensures.some
+    c.if-holds.ensures c.requires.proper (λ full. c.if-held_count-self.false (c.held_count.ensures ∙ full))
 
-pub returns-then-self : goal.returns-then-self
-unfolding First
-returns-then-self c =
-    let b = c.args.self.now in
-    let unset = sym (c.if-is_set.ensures ∙ ap (has _) c.bit_number-k.ensures) in
-    record {
-      refuses = inr ((λ bad. bad c.requires.proper), inr ((λ h. false≢true (sym unset ∙ (set_tells b c.args.e c.args.i c.requires.cell).1 h)), inl (sym b.total ∙ c.if-self.true, refl)));
-      after = refl;
-      ceiling = refl;
-      rest = refl;
-    }
+pub recount-requires-clause-counted : goal.recount-requires-clause-counted
+recount-requires-clause-counted c = (put c).counted
 
-pub write-requires : goal.write-requires
-write-requires c =
-    let b = c.args.self.now in
-    let unset = sym (c.if-is_set.ensures ∙ ap (has _) c.bit_number-k.ensures) in
-    record { place = inside b c.args.e c.args.i c.requires.cell; orderly = put_writes b c.args.e c.args.i c.requires.cell c.bit_number-k.result c.bit_number-k.ensures unset c.requires.proper (below b c.if-self.false) }
+pub recount-requires-clause-few : goal.recount-requires-clause-few
+recount-requires-clause-few c = (put c).few
 
-pub returns : goal.returns
-unfolding First
-returns c =
-    let b = c.args.self.now in
-    let unset = sym (c.if-is_set.ensures ∙ ap (has _) c.bit_number-k.ensures) in
-    record {
-      refuses = inr ((λ bad. bad c.requires.proper), inr ((λ h. false≢true (sym unset ∙ (set_tells b c.args.e c.args.i c.requires.cell).1 h)), inr ((λ full. c.if-self.false (b.total ∙ full)), refl)));
-      after = c.write.ensures.entries ∙ put_written b c.args.e c.args.i c.requires.cell c.bit_number-k.result c.bit_number-k.ensures unset c.requires.proper (below b c.if-self.false);
-      ceiling = c.write.ensures.ceiling;
-      rest = c.write.ensures.rest;
-    }
+pub invariant_of-self : goal.invariant_of-self
+invariant_of-self c = (put c.before).keeps c.recount.new.front c.recount.ensures
+
+pub returns-clause-refuses : goal.returns-clause-refuses
+returns-clause-refuses c =
+    let new = unset_absent c.args.self.now c.args.e c.args.i c.requires.cell c.as_slice.result.now c.as_slice.ensures c.if-holds.ensures in
+    put_done _ _ _ c.requires.proper new (λ full. c.if-held_count-self.false (c.held_count.ensures ∙ full))
+
+pub returns-clause-put : goal.returns-clause-put
+returns-clause-put c =
+    let put = put c.before.before in
+    record { stand = put.stands c.recount.new.front c.recount.ensures; ceiling = refl; rest = put.rest c.recount.new.front c.recount.ensures }

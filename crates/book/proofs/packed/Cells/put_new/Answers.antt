@@ -1,42 +1,49 @@
-use Rattle.std.proofs.Common.{◌≡◌, ◌<◌, length, sym, refl, ◌∙◌, inl, inr, arith}
-use Rattle.std.proofs.lemmas.List.{length-take-le}
-use Rattle.rights.specs.Checks.{First}
+use Rattle.std.proofs.Common.{◌≡◌, is_ok, length, sym, refl, ap, ◌∙◌}
+use Rattle.std.proofs.lemmas.Bool.{false≢true}
+use Rattle.book.specs.Cells.{turned}
+use Rattle.book.specs.Effects.{with_entry}
 use Rattle.book.specs.Packing.{packed}
-use Rattle.book.specs.declared.packed.Cells.{Cells}
-use Rattle.book.proofs.Packs.{absent, put_inserted, put_inserts, cell_room}
+use Rattle.book.proofs.Packs.{Changed, absent, cell_fits, put_grown}
+use Rattle.book.proofs.Refused.{put_full, put_done}
 use Rattle.book.proofs.packed.Cells.put_new.Goals as goal
 
--- the count is not the ceiling
-below : (b : Cells) → (b.count ≡ b.ceiling → ⊥) → length (packed b) < b.ceiling
-below b other = omega (arith, b.total, b.counted)
+pub returns-then-held_count-self-clause-refuses : goal.returns-then-held_count-self-clause-refuses
+returns-then-held_count-self-clause-refuses c =
+    put_full _ _ _ c.requires.proper (absent c.args.self.now c.args.e c.args.i c.requires.cell) (sym c.held_count.ensures ∙ c.if-held_count-self.true)
 
-pub returns-then-self : goal.returns-then-self
-unfolding First
-returns-then-self c =
-    let b = c.args.self.now in
-    record {
-      refuses = inr ((λ bad. bad c.requires.proper), inr (absent b c.args.e c.args.i c.requires.cell, inl (sym b.total ∙ c.if-self.true, refl)));
-      after = refl;
-      ceiling = refl;
-      rest = refl;
-    }
+-- the front has room
+roomy : (c : goal.After-from_residual) → ⊥
+roomy c =
+    let done = c.insert.ensures.done.1 (cell_fits c.args.self.now c.args.e c.args.i c.requires.cell c.requires.proper (λ full. c.if-held_count-self.false (c.held_count.ensures ∙ full))) in
+    false≢true (sym (ap is_ok c.in_err-map_err.was) ∙ c.map_err.ensures.variant ∙ done)
 
-pub insert-requires : goal.insert-requires
-insert-requires c =
-    let b = c.args.self.now in
-    record {
-      place = omega (arith, c.requires.cell.0, length-take-le b.store.used b.store.list.now b.inside);
-      room = cell_room b (omega (arith, b.counted, c.if-self.false));
-      orderly = put_inserts b c.args.e c.args.i c.requires.cell c.bit_number-k.result c.bit_number-k.ensures c.requires.proper (below b c.if-self.false);
-    }
+pub returns-in_err-map_err-clause-refuses : goal.returns-in_err-map_err-clause-refuses
+returns-in_err-map_err-clause-refuses c = absurd (roomy c)
 
-pub returns : goal.returns
-unfolding First
-returns c =
-    let b = c.args.self.now in
-    record {
-      refuses = inr ((λ bad. bad c.requires.proper), inr (absent b c.args.e c.args.i c.requires.cell, inr ((λ full. c.if-self.false (b.total ∙ full)), refl)));
-      after = c.insert.ensures.entries ∙ put_inserted b c.args.e c.args.i c.requires.cell c.bit_number-k.result c.bit_number-k.ensures c.requires.proper (below b c.if-self.false);
-      ceiling = c.insert.ensures.ceiling;
-      rest = c.insert.ensures.rest;
-    }
+pub returns-in_err-map_err-clause-unchanged : goal.returns-in_err-map_err-clause-unchanged
+returns-in_err-map_err-clause-unchanged c = absurd (roomy c)
+
+-- the new cell holds e alone
+put : (c : goal.After-recount-arg-1) → Changed c.args.self.now (with_entry c.args.e (packed c.args.self.now)) c.args.i c.insert.new.self
+put c =
+    let other = λ (full : length (packed c.args.self.now) ≡ c.args.self.now.ceiling). c.if-held_count-self.false (c.held_count.ensures ∙ full) in
+    let done = c.insert.ensures.done.1 (cell_fits c.args.self.now c.args.e c.args.i c.requires.cell c.requires.proper other) in
+    put_grown c.args.self.now c.args.e c.args.i c.requires.cell c.requires.proper other c.turned.result (c.turned.ensures ∙ ap (λ x. turned x c.args.e.right) c.empty.ensures) c.insert.result done c.insert.new.self c.insert.ensures.ok
+
+pub recount-requires-clause-counted : goal.recount-requires-clause-counted
+recount-requires-clause-counted c = (put c).counted
+
+pub recount-requires-clause-few : goal.recount-requires-clause-few
+recount-requires-clause-few c = (put c).few
+
+pub invariant_of-self-2 : goal.invariant_of-self-2
+invariant_of-self-2 c = (put c.before).keeps c.recount.new.front c.recount.ensures
+
+pub returns-clause-refuses : goal.returns-clause-refuses
+returns-clause-refuses c =
+    put_done _ _ _ c.requires.proper (absent c.args.self.now c.args.e c.args.i c.requires.cell) (λ full. c.if-held_count-self.false (c.held_count.ensures ∙ full))
+
+pub returns-clause-put : goal.returns-clause-put
+returns-clause-put c =
+    let put = put c.before.before in
+    record { stand = put.stands c.recount.new.front c.recount.ensures; ceiling = refl; rest = put.rest c.recount.new.front c.recount.ensures }

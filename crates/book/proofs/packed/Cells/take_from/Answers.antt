@@ -1,57 +1,41 @@
-use Rattle.std.proofs.Common.{sym, refl, ap, ◌∙◌, inl, inr, arith}
-use Rattle.std.proofs.lemmas.Bool.{false≢true}
-use Rattle.rights.specs.Checks.{First}
-use Rattle.book.specs.Cells.{has}
-use Rattle.rights.proofs.Bits.{bit_below}
-use Rattle.book.proofs.Packs.{inside, set_tells, take_written, take_writes, take_removed, take_removes}
+use Rattle.std.proofs.Common.{sym, refl, ap, subst, ◌∙◌}
+use Rattle.book.specs.Effects.{without_entry}
+use Rattle.book.specs.Packing.{packed}
+use Rattle.book.proofs.Packs.{Changed, set_stands, unset_absent, take_changed, take_shrunk}
+use Rattle.book.proofs.Refused.{take_absent, take_done}
 use Rattle.book.proofs.packed.Cells.take_from.Goals as goal
+use Rattle.book.proofs.packed.Cells.take_from.Goals.{then-size-eq1, else-size-eq1}
 
-pub is_set-requires : goal.is_set-requires
-is_set-requires c = let h = bit_below c.args.e.right in omega (arith, c.bit_number-k.ensures)
+pub returns-then-not-holds-clause-refuses : goal.returns-then-not-holds-clause-refuses
+returns-then-not-holds-clause-refuses c =
+    take_absent _ 0 _ c.requires.proper (unset_absent c.args.self.now c.args.e c.args.i c.requires.cell c.as_slice.result.now c.as_slice.ensures c.if-not-holds.ensures)
 
-pub returns-then-not-is_set : goal.returns-then-not-is_set
-unfolding First
-returns-then-not-is_set c =
-    let unset = sym (c.if-not-is_set.ensures ∙ ap (has _) c.bit_number-k.ensures) in
-    record {
-      refuses = inr ((λ bad. bad c.requires.proper), inl ((λ h. false≢true (sym unset ∙ (set_tells c.args.self.now c.args.e c.args.i c.requires.cell).1 h)), refl));
-      after = refl;
-      ceiling = refl;
-      rest = refl;
-    }
-
-pub remove-requires : goal.remove-requires
-remove-requires c =
+-- a cell of one entry goes, and another is put back with the bit of e cleared
+taken : (c : goal.After-recount-arg-1) → Changed c.args.self.now (without_entry c.args.e (packed c.args.self.now)) c.args.i c.if-size-eq1.self.1.0
+taken c =
     let b = c.args.self.now in
-    let set' = sym (c.if-not-is_set.ensures ∙ ap (has _) c.bit_number-k.ensures) in
-    record { place = inside b c.args.e c.args.i c.requires.cell; orderly = take_removes b c.args.e c.args.i c.requires.cell c.bit_number-k.result c.bit_number-k.ensures set' (sym c.size.ensures ∙ c.if-size-eq1.true) }
+    elim c.if-size-eq1.branch [
+      | then-size-eq1 w ↦ subst (Changed b _ c.args.i) (sym (ap (λ t. t.1.0) w.self-is))
+          (take_shrunk b c.args.e c.args.i c.requires.cell c.as_slice.result.now c.as_slice.ensures c.if-not-holds.ensures (sym c.size.ensures ∙ w.if-size-eq1.true) w.remove.result w.remove.ensures.gives w.remove.new.self w.remove.ensures.some)
+      | else-size-eq1 w ↦ subst (Changed b _ c.args.i) (sym (ap (λ t. t.1.0) w.self-is))
+          (take_changed b c.args.e c.args.i c.requires.cell c.as_slice.result.now c.as_slice.ensures w.turned.result w.turned.ensures w.replace.result w.replace.ensures.gives w.replace.new.self w.replace.ensures.some
+          c.if-not-holds.ensures (λ one. w.if-size-eq1.false (c.size.ensures ∙ one)))
+    ]
 
-pub returns-then-size-eq1 : goal.returns-then-size-eq1
-unfolding First
-returns-then-size-eq1 c =
-    let b = c.args.self.now in
-    let set' = sym (c.if-not-is_set.ensures ∙ ap (has _) c.bit_number-k.ensures) in
-    record {
-      refuses = inr ((λ bad. bad c.requires.proper), inr ((λ none. none ((set_tells b c.args.e c.args.i c.requires.cell).0 set')), refl));
-      after = c.remove.ensures.entries ∙ take_removed b c.args.e c.args.i c.requires.cell c.bit_number-k.result c.bit_number-k.ensures set' (sym c.size.ensures ∙ c.if-size-eq1.true);
-      ceiling = c.remove.ensures.ceiling;
-      rest = c.remove.ensures.rest;
-    }
+pub recount-requires-clause-counted : goal.recount-requires-clause-counted
+recount-requires-clause-counted c = (taken c).counted
 
-pub write-requires : goal.write-requires
-write-requires c =
-    let b = c.args.self.now in
-    let set' = sym (c.if-not-is_set.ensures ∙ ap (has _) c.bit_number-k.ensures) in
-    record { place = inside b c.args.e c.args.i c.requires.cell; orderly = take_writes b c.args.e c.args.i c.requires.cell c.bit_number-k.result c.bit_number-k.ensures set' (λ one. c.if-size-eq1.false (c.size.ensures ∙ one)) }
+pub recount-requires-clause-few : goal.recount-requires-clause-few
+recount-requires-clause-few c = (taken c).few
 
-pub returns : goal.returns
-unfolding First
-returns c =
-    let b = c.args.self.now in
-    let set' = sym (c.if-not-is_set.ensures ∙ ap (has _) c.bit_number-k.ensures) in
-    record {
-      refuses = inr ((λ bad. bad c.requires.proper), inr ((λ none. none ((set_tells b c.args.e c.args.i c.requires.cell).0 set')), refl));
-      after = c.write.ensures.entries ∙ take_written b c.args.e c.args.i c.requires.cell c.bit_number-k.result c.bit_number-k.ensures set';
-      ceiling = c.write.ensures.ceiling;
-      rest = c.write.ensures.rest;
-    }
+pub invariant_of-self : goal.invariant_of-self
+invariant_of-self c = (taken c.before).keeps c.recount.new.front c.recount.ensures
+
+pub returns-clause-refuses : goal.returns-clause-refuses
+returns-clause-refuses c =
+    take_done _ 0 _ c.requires.proper (set_stands c.args.self.now c.args.e c.args.i c.requires.cell c.as_slice.result.now c.as_slice.ensures c.if-not-holds.ensures)
+
+pub returns-clause-taken : goal.returns-clause-taken
+returns-clause-taken c =
+    let taken = taken c.before.before in
+    record { stand = taken.stands c.recount.new.front c.recount.ensures; ceiling = refl; rest = taken.rest c.recount.new.front c.recount.ensures }

@@ -1,8 +1,8 @@
-use Rattle.std.proofs.Common.{refl, inl}
-use Rattle.std.proofs.lemmas.Bool.{false≢true}
-use Rattle.rights.specs.Checks.{First}
+use Rattle.std.proofs.lemmas.Result.{err_from_is_err_and}
+use Rattle.book.proofs.Refused.{put_improper}
 use Rattle.book.proofs.packed.calls.CellsBook.put.Goals as goal
 
-pub returns-then-not-proper : goal.returns-then-not-proper
-unfolding First
-returns-then-not-proper c = record { refuses = inl ((λ h. false≢true (c.if-not-proper.ensures.1 h)), refl); after = refl; ceiling = refl; rest = refl }
+pub returns-in_err-in_range-clause-refuses : goal.returns-in_err-in_range-clause-refuses
+returns-in_err-in_range-clause-refuses c =
+    let p = err_from_is_err_and c.from_residual.result c.from_residual.ensures.1 in
+    rw (p.1, p.2, c.in_err-in_range.ensures.0) (put_improper _ _ _ c.in_err-in_range.ensures.1)
