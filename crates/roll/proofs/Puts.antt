@@ -1,5 +1,6 @@
 -- The checks of a put and of a take, one after another.
-use Rattle.std.proofs.Common.{◌≡◌, ℕ, IfOk, IsErrAnd, IsOk, OnOk, rules, Ok, Err, Result, MatchResult, List, Some, None, Option, sym, refl, subst}
+use Rattle.std.proofs.Common.{◌≡◌, ◌↔◌, ℕ, Bool, IsTrue, is_ok, ⊎_elim, IfOk, IsErrAnd, IsOk, OnOk, rules, Ok, Err, Result, MatchResult, List, Some, None, Option, sym, refl, subst}
+use Rattle.std.proofs.lemmas.Bool.{both_ways}
 use Rattle.std.proofs.lemmas.Result.{err_from_is_err_and}
 use Rattle.rights.specs.declared.entries.Pair.{Pair}
 use Rattle.rights.specs.declared.faults.RollFault.{RollFault}
@@ -7,7 +8,7 @@ use Rattle.rights.specs.Checks.{First, fault_of}
 use Rattle.rights.specs.Lists.{In}
 use Rattle.rights.specs.Pairs.{pair}
 use Rattle.rights.specs.Within.{Within}
-use Rattle.rights.proofs.Checks.{first_hit, first_miss, first_none}
+use Rattle.rights.proofs.Checks.{first_hit, first_miss, first_none, first_cases, first_nothing, some_none}
 use Rattle.roll.proofs.Places.{stands_in, gap_absent}
 use Rattle.roll.specs.Places.{StandsAt, Gap}
 use Rattle.roll.specs.Refusals.{BothSubjects, Addable, full_checks, put_checks, take_checks}
@@ -50,3 +51,11 @@ on_ok (Err e) P h k = absurd (search rules)
 pub fault_none : {T F : Type 0} (r : Result T F) → IsOk r → fault_of r ≡ None
 fault_none (Ok x) h = refl
 fault_none (Err e) h = absurd (search rules)
+
+-- what the search of (m, g) tells of it: a number out of range stands in no pair
+pub take_decides : (K : List Pair) (m g : ℕ) (r : Result ℕ RollFault) (b : Bool) → (In (pair m g) K → BothSubjects m g) → First (take_checks K m g) (fault_of r) → IfOk r (StandsAt K (pair m g)) → b ≡ is_ok r → IsTrue b ↔ In (pair m g) K
+take_decides K m g (Ok k) b proper h at e = (λ _. stands_in K (pair m g) k at, λ _. e)
+take_decides K m g (Err f) b proper h at e = (λ t. absurd (both_ways b e t), λ i. absurd (⊎_elim
+    (λ k. k.0 (proper i))
+    (λ k. ⊎_elim (λ j. j.0 i) (λ j. some_none f (first_nothing (Some f) j.1)) (first_cases _ _ (Some f) k.1))
+    (first_cases _ _ (Some f) h)))

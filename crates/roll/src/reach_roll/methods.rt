@@ -52,7 +52,8 @@ impl Roll for ReachRoll<'_> {
     }
 
     fn within(&self, s: u16, g: u16) -> bool {
-        both_subjects(s, g).is_ok_and(|p| self.table[usize::from(p.member)][usize::from(p.group)])
+        let table = &self.table;
+        both_subjects(s, g).is_ok_and(|p| table[usize::from(p.member)][usize::from(p.group)])
     }
 }
 
