@@ -1,4 +1,4 @@
-// The walk: the subjects that it has reached, marked, and those of them whose pairs are still to be followed.
+// The walk: the subjects that it has reached, marked, and those of them still to be followed.
 ghost use Rattle.std.specs.Prelude.{◌≡◌, ◌+◌, ◌≤◌, true, false, [], ◌∷◌, length, replicate, slice_set};
 ghost use Rattle.arrayvec.specs.ArrayVec.{array_vec_len};
 ghost use Rattle.rights.specs.Lists.{In};
@@ -32,7 +32,9 @@ impl Reached {
 
     // Marks h, and has its pairs followed unless it was marked.
     fn mark(&mut self, h: u8)
-        ensures { Marks (λ x. x ≡ h) self.old.marks self.new.marks self.old.todo.items self.new.todo.items }
+        ensures {
+            Marks (λ x. x ≡ h) self.old.marks self.new.marks self.old.todo.items self.new.todo.items
+        }
     {
         let at = usize::from(h);
         if !self.marks[at] {

@@ -36,10 +36,10 @@ pub(crate) fn join(table: &mut [[bool; 256]; 256], p: Pair)
     ensures { Joined p.member p.group table.old table.new }
 {
     let above = table[usize::from(p.group)];
+    // tried: `for row in table`; after `iter_mut` a proof knows the table's length, and no row
     for s in 0..256 {
         if table[s][usize::from(p.member)] {
-            let row = table[s];
-            table[s] = merged(&row, &above);
+            table[s] = merged(&table[s], &above);
         }
     }
 }
@@ -48,6 +48,7 @@ pub(crate) fn join(table: &mut [[bool; 256]; 256], p: Pair)
 pub(crate) fn renew(table: &mut [[bool; 256]; 256], pairs: &PairRoll<'_>, m: u8)
     ensures { Renewed (pairs_of pairs.now) m table.old table.new }
 {
+    // by place, for the reason in `join`
     for s in 0..=255 {
         if table[usize::from(s)][usize::from(m)] {
             table[usize::from(s)] = pairs.reached(s);

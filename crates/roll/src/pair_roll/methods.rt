@@ -79,8 +79,14 @@ impl<'a> PairRoll<'a> {
     pub(crate) fn add(&mut self, k: usize, p: Pair) -> Result<(), RollFault>
         requires may { Addable (pairs_of self.old) p }
         requires place { Gap (pairs_of self.old) p k }
-        ensures refuses { First (full_checks (pairs_of self.old) (ceiling_of self.old)) (fault_of result) }
-        ensures adds { pairs_of self.new ≡ (if is_ok result then added p (pairs_of self.old) else pairs_of self.old) }
+        ensures refuses {
+            First (full_checks (pairs_of self.old) (ceiling_of self.old)) (fault_of result)
+        }
+        ensures adds {
+            pairs_of self.new ≡ (if is_ok result
+                then added p (pairs_of self.old)
+                else pairs_of self.old)
+        }
         ensures keeps { ceiling_of self.new ≡ ceiling_of self.old }
         ensures rest { SameRest self.old self.new }
     {
@@ -111,7 +117,7 @@ impl Roll for PairRoll<'_> {
     }
 
     fn within(&self, s: u16, g: u16) -> bool {
-        // no `is_ok_and`: of a closure that lends the roll to a call a proof learns nothing
+        // tried: `is_ok_and`; of a closure that holds a roll a proof learns nothing of its answer
         match both_subjects(s, g) {
             Ok(p) => self.reached(p.member)[usize::from(p.group)],
             Err(_) => false,
