@@ -1,5 +1,5 @@
 -- What the check of the caller's list gives for a roll: its refusals and its ceiling.
-use Rattle.std.proofs.Common.{◌≡◌, ℕ, Some, None, Option, sym, refl, ap, inl, inr, ⊎_elim}
+use Rattle.std.proofs.Common.{ℕ, Some, None, Option, sym, refl, ap, inl, inr, ⊎_elim}
 use Rattle.std.specs.Option.{option_map}
 use Rattle.rights.specs.declared.faults.RollFault.{RollFault}
 use Rattle.rights.specs.declared.faults.RoomFault.{RoomFault}

@@ -1,44 +1,23 @@
 -- A pair more at its place, and a list without one place: what a put and a take leave, which is kept well.
-use Rattle.std.proofs.Common.{◌≡◌, ◌↔◌, ℕ, zero, suc, ◌+◌, ◌<◌, ◌≤◌, true, IsOk, OnOk, OnSome, Option, Result, List, [], ◌∷◌, length, get_or, take, drop, sym, ap, ◌∙◌, subst, inl, inr, arith}
+use Rattle.std.proofs.Common.{◌≡◌, ◌↔◌, ℕ, ◌+◌, ◌<◌, ◌≤◌, true, IsOk, OnOk, OnSome, Option, Result, List, length, take, drop, sym, ◌∙◌, subst, arith}
 use Rattle.std.specs.List.{slice_get, insert, remove, AllByRecursion}
-use Rattle.std.proofs.lemmas.List.Edits.{length-remove}
 use Rattle.std.proofs.ByRecursion.{All-from_get_or}
 use Rattle.std.proofs.lemmas.List.{get_or-take, get_or-drop, length-take-le, length-drop}
 use Rattle.std.proofs.lemmas.Option.{slice_get_within, get_or_from_slice_get}
 use Rattle.rights.specs.declared.entries.Pair.{Pair}
 use Rattle.rights.specs.Lists.{In}
-use Rattle.rights.specs.Pairs.{Before, Proper, RisingPairs}
-use Rattle.rights.proofs.Within.{loopless_fewer}
+use Rattle.rights.specs.Pairs.{RisingPairs}
 use Rattle.rising.specs.Fronts.{stored, whole, SameRest, Refilled}
 use Rattle.rising.specs.declared.fronts.Front.{Front}
 use Rattle.roll.specs.Pairs.{before, added, dropped}
 use Rattle.roll.specs.Places.{StandsAt, Gap}
 use Rattle.roll.specs.Refusals.{Addable}
-use Rattle.roll.specs.Sound.{Sound, Kept}
-use Rattle.roll.proofs.Lists.{all_in, all_from_in, added_at, dropped_at, length_added}
+use Rattle.roll.specs.Sound.{Kept}
+use Rattle.roll.proofs.Lists.{added_at, dropped_at, length_added, length_dropped}
 use Rattle.roll.proofs.Orders.{before_so}
+use Rattle.roll.proofs.Places.{stands_in}
 use Rattle.roll.proofs.Puts.{on_ok}
-use Rattle.roll.proofs.Sounds.{sound_added}
-
-in_removed : (xs : List Pair) (i : ℕ) (x : Pair) → In x (remove xs i) → In x xs
-in_removed [] zero x j = j
-in_removed [] (suc i) x j = j
-in_removed (y ∷ ys) zero x j = inr j
-in_removed (y ∷ ys) (suc i) x (inl e) = inl e
-in_removed (y ∷ ys) (suc i) x (inr j) = inr (in_removed ys i x j)
-
-rising_removed : (xs : List Pair) (i : ℕ) → RisingPairs xs → RisingPairs (remove xs i)
-rising_removed [] zero up = tt
-rising_removed [] (suc i) up = tt
-rising_removed (y ∷ ys) zero up = up.1
-rising_removed (y ∷ ys) (suc i) up = (all_from_in (Before y) (remove ys i) (λ x j. all_in (Before y) ys x up.0 (in_removed ys i x j)), rising_removed ys i up.1)
-
-pub sound_removed : (xs : List Pair) (i : ℕ) → Sound xs → Sound (remove xs i)
-sound_removed xs i old = record {
-  rising = rising_removed xs i old.rising;
-  proper = all_from_in Proper (remove xs i) (λ x j. all_in Proper xs x old.proper (in_removed xs i x j));
-  loopless = loopless_fewer xs (remove xs i) (in_removed xs i) old.loopless;
-}
+use Rattle.roll.proofs.Sounds.{sound_added, sound_dropped}
 
 -- a pair that does not stand is added where it would stand
 pub gap_added : (ps : List Pair) (p : Pair) (k : ℕ) → Gap ps p k → added p ps ≡ insert ps k p
@@ -61,10 +40,10 @@ kept_added ps p ceiling old room may = record {
   limit = old.limit;
 }
 
-pub kept_removed : (ps : List Pair) (p : Pair) (k ceiling : ℕ) → Kept ps ceiling → StandsAt ps p k → Kept (remove ps k) ceiling
-kept_removed ps p k ceiling old at = record {
-  sound = sound_removed ps k old.sound;
-  few = omega (arith, old.few, length-remove ps k (slice_get_within ps k p at));
+pub kept_dropped : (ps : List Pair) (p : Pair) (ceiling : ℕ) → Kept ps ceiling → In p ps → Kept (dropped p ps) ceiling
+kept_dropped ps p ceiling old here = record {
+  sound = sound_dropped ps p.member p.group old.sound;
+  few = omega (arith, old.few, length_dropped p ps here);
   limit = old.limit;
 }
 
@@ -110,11 +89,14 @@ pub record TakenOut (f after : Front Pair) (most : ℕ) (p : Pair) : Type 0 wher
 
 pub taken_out : (f after : Front Pair) (most k : ℕ) (p : Pair) (o : Option Pair) → most ≤ length (whole f) → Kept (stored f) most → StandsAt (stored f) p k → o ≡ slice_get (stored f) k → OnSome o (Refilled f (remove (stored f) k) after) → TakenOut f after most p
 taken_out f after most k p o room kept at is some = record {
-  drops = fill.holds ∙ sym (stands_dropped (stored f) p k kept.sound.rising at);
+  drops = drops;
   room = omega (arith, fill.long, room);
-  kept = subst (λ K. Kept K most) (sym fill.holds) (kept_removed (stored f) p k most kept at);
+  kept = subst (λ K. Kept K most) (sym drops) (kept_dropped (stored f) p most kept (stands_in (stored f) p k at));
   rest = fill.rest;
 }
   where
     fill : Refilled f (remove (stored f) k) after
     fill = subst (λ x. OnSome x (Refilled f (remove (stored f) k) after)) (is ∙ at) some
+
+    drops : stored after ≡ dropped p (stored f)
+    drops = fill.holds ∙ sym (stands_dropped (stored f) p k kept.sound.rising at)

@@ -1,16 +1,16 @@
 -- The walk: a subject marked, the groups of one member, and all that is reached.
-use Rattle.std.proofs.Common.{◌≡◌, ℕ, zero, suc, ◌+◌, ◌<◌, ◌≤◌, Bool, true, false, cond, ◌⊎◌, List, [], ◌∷◌, length, get_or, set, replicate, ◌++◌, Some, sym, refl, ap, ◌∙◌, subst, inl, inr, ⊎_elim, arith}
-use Rattle.std.proofs.lemmas.List.{get_or-set_same, get_or-set_other, get_or_past, get_or-replicate, length-replicate, set-get_or}
+use Rattle.std.proofs.Common.{◌≡◌, ℕ, zero, suc, ◌+◌, ◌<◌, Bool, true, false, cond, ◌⊎◌, List, [], ◌∷◌, length, get_or, set, replicate, ◌++◌, sym, refl, ap, ◌∙◌, subst, inl, inr, ⊎_elim, arith}
+use Rattle.std.proofs.lemmas.List.{get_or-set_same, get_or-set_other, get_or_past, get_or-replicate, length-replicate}
 use Rattle.std.proofs.lemmas.Bool.{cases_eq, cases_lt, both_ways}
-use Rattle.std.specs.List.{Contains, slice_get}
+use Rattle.std.specs.List.{Contains}
 use Rattle.std.proofs.lemmas.List.{length-append}
 use Rattle.std.proofs.lemmas.List.Elements.{Contains-append_left, Contains-push, Contains-push_cases}
 use Rattle.rights.specs.declared.entries.Pair.{Pair}
 use Rattle.rights.specs.Lists.{In}
-use Rattle.rights.specs.Pairs.{pair, RisingPairs}
+use Rattle.rights.specs.Pairs.{pair}
 use Rattle.rights.specs.Within.{Within}
 use Rattle.rights.proofs.Within.{within_refl, within_one, within_trans, within_keeps}
-use Rattle.roll.specs.Walks.{Marked, unmarked, left_over, Marks, Reaches}
+use Rattle.roll.specs.Walks.{Marked, unmarked, Marks, Reaches}
 
 pub unmarked_less : (bs : List Bool) (h : ℕ) → h < length bs → get_or bs h false ≡ false → unmarked (set bs h true) + 1 ≡ unmarked bs
 unfolding unmarked
@@ -45,10 +45,6 @@ marked_none n h e = ⊎_elim
 
 pub room_one : (h : ℕ) → h < 256 → 1 + unmarked (set (replicate 256 false) h true) ≡ 256
 room_one h l = omega (arith, unmarked_less (replicate 256 false) h l (get_or-replicate 256 h false false l), unmarked_all 256)
-
--- what is marked already stays as it is
-pub marked_twice : (marks : List Bool) (h : ℕ) → Marked marks h → marks ≡ set marks h true
-marked_twice marks h e = sym (set-get_or marks h false) ∙ ap (λ b. set marks h b) e
 
 -- nothing more is marked where all of P is marked already
 pub marks_again : (P : ℕ → Type 0) (marks : List Bool) (todo : List ℕ) → ((h : ℕ) → P h → Marked marks h) → Marks P marks marks todo todo

@@ -1,7 +1,6 @@
-use Rattle.std.proofs.Common.{◌≡◌, ◌+◌, ltb, true, false, ◌⊎◌, get_or, arith, rules, ⊎_elim}
+use Rattle.std.proofs.Common.{◌≡◌, ◌+◌, ◌⊎◌, arith}
 use Rattle.rights.specs.Lists.{In}
 use Rattle.rights.specs.Pairs.{pair}
-use Rattle.roll.specs.Walks.{Marks}
 use Rattle.roll.proofs.Spreads.{Among, among_in, spread_none, spread_more, spread_back, spread_past}
 use Rattle.roll.proofs.Walks.{marks_again, marks_like, marks_both}
 use Rattle.roll.proofs.reached.spread.Goals as goal

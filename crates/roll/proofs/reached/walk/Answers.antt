@@ -1,4 +1,4 @@
-use Rattle.std.proofs.Common.{true, false, [], ◌∷◌, replicate, set, sym, subst, arith, rules}
+use Rattle.std.proofs.Common.{subst, arith}
 use Rattle.std.proofs.lemmas.Bool.{false≢true}
 use Rattle.roll.proofs.Walks.{Walking, walking_none, walking_more, walking_all}
 use Rattle.roll.proofs.reached.walk.Goals as goal

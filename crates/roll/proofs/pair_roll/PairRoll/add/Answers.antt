@@ -1,4 +1,4 @@
-use Rattle.std.proofs.Common.{◌≡◌, cond, is_ok, length, refl, sym, ◌∙◌, subst, arith}
+use Rattle.std.proofs.Common.{refl, sym, ◌∙◌}
 use Rattle.rights.proofs.Checks.{first_hit, first_miss, first_none}
 use Rattle.roll.proofs.Moves.{put_in}
 use Rattle.roll.proofs.Puts.{fault_none}

@@ -1,4 +1,4 @@
-use Rattle.std.proofs.Common.{◌≡◌, true, length, set, sym, ◌∙◌, subst, arith, length-set}
+use Rattle.std.proofs.Common.{◌≡◌, true, sym, ◌∙◌, subst, arith, length-set}
 use Rattle.roll.specs.Walks.{Marked}
 use Rattle.roll.proofs.Walks.{unmarked_less, marks_again, marks_one}
 use Rattle.roll.proofs.reached.Reached.mark.Goals as goal
