@@ -1,8 +1,7 @@
 -- The pairs of one member in a rising list: where they begin, one after another, and where they end.
-use Rattle.std.proofs.Common.{◌≡◌, ℕ, ◌+◌, ◌-◌, ◌<◌, true, false, ltb, ◌⊎◌, List, length, get_or, take, drop, Some, sym, ap, ◌∙◌, subst, inl, inr, ⊎_elim, arith}
-use Rattle.std.specs.List.{slice_get}
-use Rattle.std.specs.List.Sorted.{IsPartitionedBy, IsPartitionPoint}
-use Rattle.std.proofs.lemmas.List.{get_or-take, get_or-drop, length-take-le, length-drop}
+use Rattle.std.proofs.Common.{◌≡◌, ℕ, ◌+◌, ◌-◌, ◌<◌, ◌≤◌, true, false, ltb, ◌⊎◌, List, length, get_or, take, drop, Some, sym, ap, ◌∙◌, subst, inl, inr, ⊎_elim, arith}
+use Rattle.std.specs.List.{AllWithin, slice_get}
+use Rattle.std.proofs.lemmas.List.{get_or_default, get_or-take, get_or-drop, length-take-le, length-drop}
 use Rattle.std.proofs.lemmas.Option.{slice_get-get_or, slice_get_within, get_or_from_slice_get}
 use Rattle.std.proofs.lemmas.Bool.{cases_lt}
 use Rattle.std.proofs.lemmas.Bool.Decides.{nat_tests}
@@ -30,19 +29,45 @@ at_rest ps first k d l = get_or-take (length ps - first) (drop first ps) k d (om
 pub length_rest : (ps : List Pair) (first : ℕ) → length (rest ps first) ≡ length ps - first
 length_rest ps first = length-take-le (length ps - first) (drop first ps) (omega (arith, length-drop first ps))
 
+-- the pairs of lesser members stand below low, the others from high on; between is not settled
+pub record Halving (ps : List Pair) (m low high : ℕ) : Type 0 where
+  pub order : low ≤ high
+  pub inside : high ≤ length ps
+  pub below : AllWithin (λ q. q.member < m) ps 0 low
+  pub above : AllWithin (λ q. m ≤ q.member) ps high (length ps)
+
 module _ (ps : List Pair) (m : ℕ) (up : RisingPairs ps) where
-  -- the members rise, so a search by halving may ask for the first that is no less than m
-  pub members_rise : IsPartitionedBy (λ y. ltb y.member m) ps
-  members_rise i j d a b h = ⊎_elim
-      (λ lt. let r = rising_get_or Before ps i j d up lt b in let s = r.0 in grind (arith, nat_tests))
-      (λ ge. let e : j ≡ i = omega arith in subst (λ x. ltb (get_or ps x d).member m ≡ true) e h)
+  members_rise : (i j : ℕ) (d : Pair) → i ≤ j → j < length ps → (get_or ps i d).member ≤ (get_or ps j d).member
+  members_rise i j d le l = ⊎_elim
+      (λ lt. (rising_get_or Before ps i j d up lt l).0)
+      (λ ge. let e : i ≡ j = omega arith in subst (λ x. (get_or ps i d).member ≤ (get_or ps x d).member) e (omega arith))
       (cases_lt i j)
 
-  pub start_here : (k : ℕ) → IsPartitionPoint (λ y. ltb y.member m ≡ true) (λ y. ltb y.member m ≡ false) ps k → Start ps m k
-  start_here k parts = record {
-    below = λ j d a b. let h = parts.0 j d a b in grind (arith, nat_tests);
-    above = λ j d a b. let h = parts.1 j d a b in grind (arith, nat_tests);
-  }
+  pub halving_none : Halving ps m 0 (length ps)
+  halving_none = record { order = omega arith; inside = omega arith; below = λ k d l h. absurd (omega arith); above = λ k d l h. absurd (omega arith) }
+
+  module _ (low high mid : ℕ) (e : Pair) (old : Halving ps m low high) (from : low ≤ mid) (to : mid < high) where
+    here : (d : Pair) → (get_or ps mid d).member ≡ (get_or ps mid e).member
+    here d = ap (λ x. x.member) (get_or_default ps mid d e (omega (arith, old.inside)))
+
+    pub halving_above : (get_or ps mid e).member < m → Halving ps m (mid + 1) high
+    halving_above h = record {
+      order = omega arith;
+      inside = old.inside;
+      below = λ k d _ l. omega (arith, members_rise k mid d (omega arith) (omega (arith, old.inside)), here d, h);
+      above = old.above;
+    }
+
+    pub halving_below : m ≤ (get_or ps mid e).member → Halving ps m low mid
+    halving_below h = record {
+      order = from;
+      inside = omega (arith, old.inside);
+      below = old.below;
+      above = λ k d l less. omega (arith, members_rise mid k d l less, here d, h);
+    }
+
+  pub halving_all : (low high : ℕ) → Halving ps m low high → high ≤ low → Start ps m low
+  halving_all low high h done = let e : high ≡ low = omega (arith, h.order) in record { below = h.below; above = subst (λ x. AllWithin (λ q. m ≤ q.member) ps x (length ps)) e h.above }
 
   module _ (first : ℕ) (parts : Start ps m first) where
     pub spread_none : (h : ℕ) → Among ps (first + 0) (pair m h) → ⊥
