@@ -55,7 +55,10 @@ fault_none (Err e) h = absurd (search rules)
 -- what the search of (m, g) tells of it: a number out of range stands in no pair
 pub take_decides : (K : List Pair) (m g : ℕ) (r : Result ℕ RollFault) (b : Bool) → (In (pair m g) K → BothSubjects m g) → First (take_checks K m g) (fault_of r) → IfOk r (StandsAt K (pair m g)) → b ≡ is_ok r → IsTrue b ↔ In (pair m g) K
 take_decides K m g (Ok k) b proper h at e = (λ _. stands_in K (pair m g) k at, λ _. e)
-take_decides K m g (Err f) b proper h at e = (λ t. absurd (both_ways b e t), λ i. absurd (⊎_elim
-    (λ k. k.0 (proper i))
-    (λ k. ⊎_elim (λ j. j.0 i) (λ j. some_none f (first_nothing (Some f) j.1)) (first_cases _ _ (Some f) k.1))
-    (first_cases _ _ (Some f) h)))
+take_decides K m g (Err f) b proper h at e = (
+  λ t. absurd (both_ways b e t),
+  λ i. absurd (⊎_elim
+      (λ k. k.0 (proper i))
+      (λ k. ⊎_elim (λ j. j.0 i) (λ j. some_none f (first_nothing (Some f) j.1)) (first_cases _ _ (Some f) k.1))
+      (first_cases _ _ (Some f) h)),
+)

@@ -1,10 +1,9 @@
 -- The pairs of one member in a rising list: where they begin, one after another, and where they end.
-use Rattle.std.proofs.Common.{◌≡◌, ℕ, ◌+◌, ◌-◌, ◌<◌, ◌≤◌, true, false, ltb, ◌⊎◌, List, length, get_or, take, drop, Some, sym, ap, ◌∙◌, subst, inl, inr, ⊎_elim, arith}
+use Rattle.std.proofs.Common.{◌≡◌, ℕ, ◌+◌, ◌-◌, ◌<◌, ◌≤◌, ◌⊎◌, List, length, get_or, take, drop, Some, sym, ap, ◌∙◌, subst, inl, inr, ⊎_elim, arith}
 use Rattle.std.specs.List.{AllWithin, slice_get}
 use Rattle.std.proofs.lemmas.List.{get_or_default, get_or-take, get_or-drop, length-take-le, length-drop}
 use Rattle.std.proofs.lemmas.Option.{slice_get-get_or, slice_get_within, get_or_from_slice_get}
 use Rattle.std.proofs.lemmas.Bool.{cases_lt}
-use Rattle.std.proofs.lemmas.Bool.Decides.{nat_tests}
 use Rattle.rights.specs.declared.entries.Pair.{Pair}
 use Rattle.rights.specs.Lists.{In}
 use Rattle.rights.specs.Pairs.{pair, Before, RisingPairs}
@@ -81,7 +80,7 @@ module _ (ps : List Pair) (m : ℕ) (up : RisingPairs ps) where
       spread_more l e h = ⊎_elim
           (λ a. (a.0, omega (arith, a.1), a.2))
           (λ q. let in_list : first + k < length ps = omega (arith, length_rest ps first) in
-              (first + k, omega arith, slice_get-get_or ps (first + k) d in_list ∙ ap Some (sym (at_rest ps first k d in_list) ∙ same q)))
+          (first + k, omega arith, slice_get-get_or ps (first + k) d in_list ∙ ap Some (sym (at_rest ps first k d in_list) ∙ same q)))
         where
           same : h ≡ (get_or (rest ps first) k d).group → get_or (rest ps first) k d ≡ pair m h
           same q = ap (λ x. pair x (get_or (rest ps first) k d).group) e ∙ ap (pair m) (sym q)
@@ -90,9 +89,9 @@ module _ (ps : List Pair) (m : ℕ) (up : RisingPairs ps) where
       spread_back l h a = ⊎_elim
           (λ lt. inl (a.0, lt, a.2))
           (λ ge.
-              let q : a.0 ≡ first + k = omega (arith, a.1) in
-              let in_list : first + k < length ps = omega (arith, length_rest ps first) in
-              inr (sym (ap (λ x. x.group) (at_rest ps first k d in_list ∙ ap (λ n. get_or ps n d) (sym q) ∙ get_or_from_slice_get ps a.0 (pair m h) d a.2))))
+          let q : a.0 ≡ first + k = omega (arith, a.1) in
+          let in_list : first + k < length ps = omega (arith, length_rest ps first) in
+          inr (sym (ap (λ x. x.group) (at_rest ps first k d in_list ∙ ap (λ n. get_or ps n d) (sym q) ∙ get_or_from_slice_get ps a.0 (pair m h) d a.2))))
           (cases_lt a.0 (first + k))
 
       -- where the next is another's, or none is left
@@ -103,10 +102,10 @@ module _ (ps : List Pair) (m : ℕ) (up : RisingPairs ps) where
           ⊎_elim
           (λ lt. (o.0, lt, slice_get-get_or ps o.0 d o.1 ∙ ap Some o.2))
           (λ ge.
-              let in_list : first + k < length ps = omega (arith, o.1) in
-              let no_less = parts.above (first + k) d (omega arith) in_list in
-              absurd (past (omega (arith, length_rest ps first)) (ap (λ x. x.member) (at_rest ps first k d in_list) ∙ ⊎_elim
-                  (λ lt. let r = rising_get_or Before ps (first + k) o.0 d up lt o.1 in let s = r.0 in omega arith)
-                  (λ le. let q : first + k ≡ o.0 = omega arith in ap (λ n. (get_or ps n d).member) q ∙ is)
-                  (cases_lt (first + k) o.0))))
+          let in_list : first + k < length ps = omega (arith, o.1) in
+          let no_less = parts.above (first + k) d (omega arith) in_list in
+          absurd (past (omega (arith, length_rest ps first)) (ap (λ x. x.member) (at_rest ps first k d in_list) ∙ ⊎_elim
+          (λ lt. let r = rising_get_or Before ps (first + k) o.0 d up lt o.1 in let s = r.0 in omega arith)
+          (λ le. let q : first + k ≡ o.0 = omega arith in ap (λ n. (get_or ps n d).member) q ∙ is)
+          (cases_lt (first + k) o.0))))
           (cases_lt o.0 (first + k))

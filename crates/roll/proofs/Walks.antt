@@ -4,7 +4,7 @@ use Rattle.std.proofs.lemmas.List.{get_or-set_same, get_or-set_other, get_or_pas
 use Rattle.std.proofs.lemmas.Bool.{cases_eq, cases_lt, both_ways}
 use Rattle.std.specs.List.{Contains}
 use Rattle.std.proofs.lemmas.List.{length-append}
-use Rattle.std.proofs.lemmas.List.Elements.{Contains-append_left, Contains-push, Contains-push_cases}
+use Rattle.std.proofs.lemmas.List.Elements.{Contains-append_left, Contains-append_right, Contains-append_cases, Contains-push, Contains-push_cases}
 use Rattle.rights.specs.declared.entries.Pair.{Pair}
 use Rattle.rights.specs.Lists.{In}
 use Rattle.rights.specs.Pairs.{pair}
@@ -98,25 +98,28 @@ module _ (ps : List Pair) (s : ℕ) where
     closed = λ a h e i. ⊎_elim (λ q. inl (subst (Contains (s ∷ [])) (sym q) (Contains-push [] s))) (λ n. absurd (marked_none 256 a n)) (marked_before (replicate 256 false) s a e);
   }
 
-  pub walking_more : (m : ℕ) (marks new : List Bool) (todo after : List ℕ) → Walking ps s marks (todo ++ m ∷ []) → Marks (λ h. In (pair m h) ps) marks new todo after → Walking ps s new after
+  pub walking_more : (m : ℕ) (marks new : List Bool) (todo after : List ℕ) → Walking ps s marks (m ∷ todo) → Marks (λ h. In (pair m h) ps) marks new todo after → Walking ps s new after
   walking_more m marks new todo after now step = record {
     start = step.grows s now.start;
     sound = λ h e. ⊎_elim (now.sound h) (λ k. within_trans ps s m h (now.sound m here) (within_one ps m h k.0)) (step.only h e);
-    listed = λ h i. ⊎_elim (λ k. step.grows h (now.listed h (Contains-append_left todo (m ∷ []) h k))) (λ e. e) (step.listed h i);
+    listed = λ h i. ⊎_elim (λ k. step.grows h (now.listed h (Contains-append_right (m ∷ []) todo h k))) (λ e. e) (step.listed h i);
     closed = λ a h e i. ⊎_elim
         (λ old. ⊎_elim
-            (λ k. ⊎_elim (λ j. inl (step.stays a j)) (λ q. inr (step.takes h (subst (λ x. In (pair x h) ps) (sym q) i))) (Contains-push_cases todo m a k))
-            (λ k. inr (step.grows h k))
-            (now.closed a h old i))
+        (λ k. ⊎_elim
+        (λ j. ⊎_elim (λ z. absurd (omega (arith, z.1))) (λ q. inr (step.takes h (subst (λ x. In (pair x h) ps) (sym q) i))) (Contains-push_cases [] m a j))
+        (λ j. inl (step.stays a j))
+        (Contains-append_cases (m ∷ []) todo a k))
+        (λ k. inr (step.grows h k))
+        (now.closed a h old i))
         (λ k. inl k.1)
         (step.only a e);
   }
     where
       here : Marked marks m
-      here = now.listed m (Contains-push todo m)
+      here = now.listed m (Contains-append_left (m ∷ []) todo m (Contains-push [] m))
 
-  pub walking_all : (marks : List Bool) (todo : List ℕ) → Walking ps s marks todo → (0 < length todo → ⊥) → Reaches ps s marks
+  pub walking_all : (marks : List Bool) (todo : List ℕ) → Walking ps s marks todo → todo ≡ [] → Reaches ps s marks
   walking_all marks todo now none h = (now.sound h, λ w. within_keeps ps (Marked marks) on s h w now.start)
     where
       on : (a b : ℕ) → In (pair a b) ps → Marked marks a → Marked marks b
-      on a b i e = ⊎_elim (λ k. absurd (none (omega (arith, k.1)))) (λ k. k) (now.closed a b e i)
+      on a b i e = ⊎_elim (λ k. absurd (omega (arith, k.1, ap length none))) (λ k. k) (now.closed a b e i)

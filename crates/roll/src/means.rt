@@ -43,25 +43,19 @@ pub trait RollMut: Roll {
 
     /// Adds (m, g) and nothing else, or refuses.
     fn put(&mut self, m: u16, g: u16) -> Result<(), RollFault>
-        ensures refuses {
-            First (put_checks (Self.pairs self.old) (Self.ceiling self.old) m g) (fault_of result)
-        }
-        ensures adds {
-            Self.pairs self.new ≡ (if is_ok result
-                then added (pair m g) (Self.pairs self.old)
-                else Self.pairs self.old)
-        }
+        ensures refuses { First (put_checks (Self.pairs self.old) (Self.ceiling self.old) m g) (fault_of result) }
+        ensures adds { Self.pairs self.new ≡ (if is_ok result
+            then added (pair m g) (Self.pairs self.old)
+            else Self.pairs self.old) }
         ensures keeps { Self.ceiling self.new ≡ Self.ceiling self.old }
         ensures rest { leaves_rest self.old self.new };
 
     /// Takes (m, g) out and nothing else, or refuses.
     fn take(&mut self, m: u16, g: u16) -> Result<(), RollFault>
         ensures refuses { First (take_checks (Self.pairs self.old) m g) (fault_of result) }
-        ensures drops {
-            Self.pairs self.new ≡ (if is_ok result
-                then dropped (pair m g) (Self.pairs self.old)
-                else Self.pairs self.old)
-        }
+        ensures drops { Self.pairs self.new ≡ (if is_ok result
+            then dropped (pair m g) (Self.pairs self.old)
+            else Self.pairs self.old) }
         ensures keeps { Self.ceiling self.new ≡ Self.ceiling self.old }
         ensures rest { leaves_rest self.old self.new };
 }

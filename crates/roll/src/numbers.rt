@@ -8,11 +8,9 @@ ghost use Rattle.roll.specs.Refusals.{BothSubjects};
 use rights::{Pair, RollFault};
 
 fn subject(number: u16) -> Result<u8, RollFault>
-    ensures {
-        MatchResult result
-            (λ s. SubjectNumber number × (s ≡ number))
-            (λ f. (f ≡ RollFault.BadNumber) × ¬ SubjectNumber number)
-    }
+    ensures { MatchResult result
+        (λ s. SubjectNumber number × (s ≡ number))
+        (λ f. (f ≡ RollFault.BadNumber) × ¬ SubjectNumber number) }
 {
     u8::try_from(number)
         .ok()
@@ -22,11 +20,9 @@ fn subject(number: u16) -> Result<u8, RollFault>
 
 // The two, if both are numbers of subjects.
 pub(crate) fn both_subjects(m: u16, g: u16) -> Result<Pair, RollFault>
-    ensures {
-        MatchResult result
-            (λ p. BothSubjects m g × (p ≡ pair m g))
-            (λ f. (f ≡ RollFault.BadNumber) × ¬ BothSubjects m g)
-    }
+    ensures { MatchResult result
+        (λ p. BothSubjects m g × (p ≡ pair m g))
+        (λ f. (f ≡ RollFault.BadNumber) × ¬ BothSubjects m g) }
 {
     Ok(Pair {
         member: subject(m)?,

@@ -1,5 +1,5 @@
 // The walk: the subjects that it has reached, marked, and those of them still to be followed.
-ghost use Rattle.std.specs.Prelude.{◌≡◌, ◌+◌, ◌≤◌, true, false, [], ◌∷◌, length, replicate, slice_set};
+ghost use Rattle.std.specs.Prelude.{◌≡◌, ◌+◌, ◌≤◌, true, false, [], ◌∷◌, length, drop, replicate, slice_set, IfNone, IfSome};
 ghost use Rattle.arrayvec.specs.ArrayVec.{array_vec_len};
 ghost use Rattle.rights.specs.Lists.{In};
 ghost use Rattle.rights.specs.Pairs.{pair, RisingPairs};
@@ -12,35 +12,53 @@ use rights::Pair;
 #[derive(Drop)]
 struct Reached {
     marks: [bool; 256],
-    todo: ArrayVec<u8, 256>,
+    found: ArrayVec<u8, 256>,
+    next: usize,
     ghost long: { length marks ≡ 256 },
-    ghost room: { array_vec_len todo + unmarked marks ≤ 256 },
+    ghost room: { array_vec_len found + unmarked marks ≤ 256 },
+    ghost inside: { next ≤ array_vec_len found },
 }
 
 impl Reached {
     // s alone.
     fn alone(s: u8) -> Reached
         ensures marks { result.marks ≡ slice_set (replicate 256 false) s true }
-        ensures todo { result.todo.items ≡ s ∷ [] }
+        ensures todo { drop result.next result.found.items ≡ s ∷ [] }
     {
         let mut marks = [false; 256];
         marks[usize::from(s)] = true;
-        let mut todo = ArrayVec::new();
-        todo.push(s);
-        Reached { marks, todo }
+        let mut found = ArrayVec::new();
+        found.push(s);
+        Reached {
+            marks,
+            found,
+            next: 0,
+        }
     }
 
-    // Marks h, and has its pairs followed unless it was marked.
+    // Marks h, and lists it unless it was marked.
     fn mark(&mut self, h: u8)
-        ensures {
-            Marks (λ x. x ≡ h) self.old.marks self.new.marks self.old.todo.items self.new.todo.items
-        }
+        ensures { Marks (λ x. x ≡ h) self.old.marks self.new.marks
+            (drop self.old.next self.old.found.items) (drop self.new.next self.new.found.items) }
     {
         let at = usize::from(h);
         if !self.marks[at] {
             self.marks[at] = true;
-            self.todo.push(h);
+            self.found.push(h);
         }
+    }
+
+    // The next subject to be followed, in the order in which they were found: a stack's order, which
+    // finds a member's pairs far from the last one's, made a walk up to 1.8 times as long.
+    fn next(&mut self) -> Option<u8>
+        ensures marks { self.new.marks ≡ self.old.marks }
+        ensures none { IfNone result (drop self.old.next self.old.found.items ≡ []) }
+        ensures some { IfSome result (λ m.
+            drop self.old.next self.old.found.items ≡ m ∷ drop self.new.next self.new.found.items) }
+    {
+        let m = *self.found.get(self.next)?;
+        self.next += 1;
+        Some(m)
     }
 }
 
@@ -67,10 +85,8 @@ fn start(pairs: &[Pair], m: u8) -> usize
 // Marks the groups that m is a direct member of.
 fn spread(pairs: &[Pair], m: u8, seen: &mut Reached)
     requires { RisingPairs pairs.now }
-    ensures {
-        Marks (λ h. In (pair m h) pairs.now) seen.old.marks seen.new.marks
-            seen.old.todo.items seen.new.todo.items
-    }
+    ensures { Marks (λ h. In (pair m h) pairs.now) seen.old.marks seen.new.marks
+        (drop seen.old.next seen.old.found.items) (drop seen.new.next seen.new.found.items) }
 {
     let first = start(pairs, m);
     for p in &pairs[first..] {
@@ -87,7 +103,7 @@ pub(crate) fn walk(pairs: &[Pair], s: u8) -> [bool; 256]
     ensures { Reaches pairs.now s result }
 {
     let mut seen = Reached::alone(s);
-    while let Some(m) = seen.todo.pop() {
+    while let Some(m) = seen.next() {
         spread(pairs, m, &mut seen);
     }
     seen.marks

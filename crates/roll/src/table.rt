@@ -18,11 +18,11 @@ fn row_of(s: usize) -> [bool; 256]
 pub(crate) fn alone() -> [[bool; 256]; 256]
     ensures { Current [] result }
 {
-    array::from_fn(|s|
-        ensures { RowOf s result }
-    {
-        row_of(s)
-    })
+    array::from_fn(
+        |s|
+            ensures { RowOf s result }
+        { row_of(s) },
+    )
 }
 
 fn merged(row: &[bool; 256], above: &[bool; 256]) -> [bool; 256]

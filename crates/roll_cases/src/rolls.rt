@@ -23,9 +23,7 @@ pub struct Tally {
 
 // Whether one of the two is within the other.
 pub(crate) fn related<R: Roll>(roll: &R, s: u16, g: u16) -> bool
-    ensures {
-        IsTrue result ↔ (WithinRoll (R.Roll.pairs roll.now) s g ⊎ WithinRoll (R.Roll.pairs roll.now) g s)
-    }
+    ensures { IsTrue result ↔ (WithinRoll (R.Roll.pairs roll.now) s g ⊎ WithinRoll (R.Roll.pairs roll.now) g s) }
 {
     roll.within(s, g) || roll.within(g, s)
 }

@@ -60,10 +60,8 @@ impl<'a> PairRoll<'a> {
 
     // The place where p would stand, unless it stands already.
     pub(crate) fn gap(&self, p: Pair) -> Result<usize, RollFault>
-        ensures {
-            MatchResult result (Gap (pairs_of self.now) p)
-                (λ f. (f ≡ RollFault.Taken) × In p (pairs_of self.now))
-        }
+        ensures { MatchResult result (Gap (pairs_of self.now) p)
+            (λ f. (f ≡ RollFault.Taken) × In p (pairs_of self.now)) }
     {
         self.find(p).err().ok_or(RollFault::Taken)
     }
@@ -79,14 +77,10 @@ impl<'a> PairRoll<'a> {
     pub(crate) fn add(&mut self, k: usize, p: Pair) -> Result<(), RollFault>
         requires may { Addable (pairs_of self.old) p }
         requires place { Gap (pairs_of self.old) p k }
-        ensures refuses {
-            First (full_checks (pairs_of self.old) (ceiling_of self.old)) (fault_of result)
-        }
-        ensures adds {
-            pairs_of self.new ≡ (if is_ok result
-                then added p (pairs_of self.old)
-                else pairs_of self.old)
-        }
+        ensures refuses { First (full_checks (pairs_of self.old) (ceiling_of self.old)) (fault_of result) }
+        ensures adds { pairs_of self.new ≡ (if is_ok result
+            then added p (pairs_of self.old)
+            else pairs_of self.old) }
         ensures keeps { ceiling_of self.new ≡ ceiling_of self.old }
         ensures rest { SameRest self.old self.new }
     {
