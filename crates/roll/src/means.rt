@@ -43,7 +43,8 @@ pub trait RollMut: Roll {
 
     /// Adds (m, g) and nothing else, or refuses.
     fn put(&mut self, m: u16, g: u16) -> Result<(), RollFault>
-        ensures refuses { First (put_checks (Self.pairs self.old) (Self.ceiling self.old) m g) (fault_of result) }
+        ensures refuses { First (put_checks (Self.pairs self.old) (Self.ceiling self.old) m g)
+            (fault_of result) }
         ensures adds { Self.pairs self.new ≡ (if is_ok result
             then added (pair m g) (Self.pairs self.old)
             else Self.pairs self.old) }

@@ -48,13 +48,13 @@ impl Reached {
         }
     }
 
-    // The next subject to be followed, in the order in which they were found: a stack's order, which
-    // finds a member's pairs far from the last one's, made a walk up to 1.8 times as long.
+    // The next subject to be followed, in the order in which they were found: with a stack, which goes
+    // to and fro among the pairs, a walk took up to 1.8 times as long.
     fn next(&mut self) -> Option<u8>
         ensures marks { self.new.marks ≡ self.old.marks }
         ensures none { IfNone result (drop self.old.next self.old.found.items ≡ []) }
-        ensures some { IfSome result (λ m.
-            drop self.old.next self.old.found.items ≡ m ∷ drop self.new.next self.new.found.items) }
+        ensures some { IfSome result (λ m. drop self.old.next self.old.found.items ≡
+            m ∷ drop self.new.next self.new.found.items) }
     {
         let m = *self.found.get(self.next)?;
         self.next += 1;

@@ -77,7 +77,8 @@ impl<'a> PairRoll<'a> {
     pub(crate) fn add(&mut self, k: usize, p: Pair) -> Result<(), RollFault>
         requires may { Addable (pairs_of self.old) p }
         requires place { Gap (pairs_of self.old) p k }
-        ensures refuses { First (full_checks (pairs_of self.old) (ceiling_of self.old)) (fault_of result) }
+        ensures refuses { First (full_checks (pairs_of self.old) (ceiling_of self.old))
+            (fault_of result) }
         ensures adds { pairs_of self.new ≡ (if is_ok result
             then added p (pairs_of self.old)
             else pairs_of self.old) }
