@@ -10,6 +10,7 @@ use crate::pair_roll::PairRoll;
 #[derive(Drop)]
 pub struct ReachRoll<'a> {
     pairs: PairRoll<'a>,
+    // fixed memory: a row, and a place in it, for each number that a subject may have
     table: [[bool; 256]; 256],
     ghost current: { ∥ Current (pairs_of pairs) table ∥₁ },
 }

@@ -9,6 +9,7 @@ ghost use Rattle.roll.specs.Walks.{unmarked, Marks, Reaches};
 use arrayvec::ArrayVec;
 use rights::Pair;
 
+// Fixed memory, a place for each number that a subject may have.
 #[derive(Drop)]
 struct Reached {
     marks: [bool; 256],
@@ -89,6 +90,7 @@ fn spread(pairs: &[Pair], m: u8, seen: &mut Reached)
         (drop seen.old.next seen.old.found.items) (drop seen.new.next seen.new.found.items) }
 {
     let first = start(pairs, m);
+    // `take_while` is no plainer: the same test in a closure, and the same loop
     for p in &pairs[first..] {
         if p.member != m {
             return;

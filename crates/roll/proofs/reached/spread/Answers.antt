@@ -1,12 +1,10 @@
 use Rattle.std.proofs.Common.{drop, ◌≡◌, ◌+◌, ◌⊎◌, arith}
 use Rattle.rights.specs.Lists.{In}
 use Rattle.rights.specs.Pairs.{pair}
-use Rattle.roll.proofs.Spreads.{Among, among_in, spread_none, spread_more, spread_back, spread_past}
-use Rattle.roll.proofs.Walks.{marks_again, marks_like, marks_both}
+use Rattle.roll.proofs.Spreads.{Among, among_in, spread_more, spread_back, spread_past}
+use Rattle.roll.proofs.Walks.{marks_like, marks_both}
 use Rattle.roll.proofs.reached.spread.Goals as goal
 
-pub loop-p-init : goal.loop-p-init
-loop-p-init c = marks_again _ c.args.seen.now.marks (drop c.args.seen.now.next c.args.seen.now.found.items) (λ h a. absurd (spread_none c.args.pairs.now c.args.m c.requires c.start-first.result c.start-first.ensures.start h a))
 
 pub returns-then-p-m : goal.returns-then-p-m
 returns-then-p-m c =

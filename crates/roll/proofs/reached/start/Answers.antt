@@ -1,9 +1,7 @@
 use Rattle.std.proofs.Common.{arith}
-use Rattle.roll.proofs.Spreads.{halving_none, halving_above, halving_below, halving_all}
+use Rattle.roll.proofs.Spreads.{halving_above, halving_below}
 use Rattle.roll.proofs.reached.start.Goals as goal
 
-pub loop-low-init : goal.loop-low-init
-loop-low-init c = halving_none c.args.pairs.now c.args.m c.requires
 
 pub loop-low-preserved-then-pairs-mid : goal.loop-low-preserved-then-pairs-mid
 loop-low-preserved-then-pairs-mid c =
@@ -12,6 +10,3 @@ loop-low-preserved-then-pairs-mid c =
 pub loop-low-preserved : goal.loop-low-preserved
 loop-low-preserved c =
     halving_below c.args.pairs.now c.args.m c.requires c.loop-low.low c.loop-low.high _ _ c.loop-low.invariant (omega arith) (omega arith) c.if-pairs-mid.false
-
-pub returns-clause-start : goal.returns-clause-start
-returns-clause-start c = halving_all c.args.pairs.now c.args.m c.requires c.loop-low.low c.loop-low.high c.loop-low.invariant c.loop-low-test.false

@@ -1,7 +1,6 @@
-use Rattle.std.proofs.Common.{◌≡◌, ◌∷◌, [], true, drop, sym, ◌∙◌, subst, arith, length-set}
+use Rattle.std.proofs.Common.{◌∷◌, [], true, drop, ◌∙◌, arith, length-set}
 use Rattle.std.proofs.lemmas.List.{drop-append-le}
-use Rattle.roll.specs.Walks.{Marked}
-use Rattle.roll.proofs.Walks.{unmarked_less, marks_again, marks_one}
+use Rattle.roll.proofs.Walks.{unmarked_less, marks_one}
 use Rattle.roll.proofs.reached.Reached.mark.Goals as goal
 
 pub push-requires : goal.push-requires
@@ -19,6 +18,3 @@ pub returns-then-not-self-at : goal.returns-then-not-self-at
 returns-then-not-self-at c =
     let x = c.args.self.now in
     rw (c.push.ensures.items, drop-append-le x.next x.found.items (c.args.h ∷ []) x.inside, c.from-at.ensures) (marks_one x.marks (drop x.next x.found.items) c.args.h (omega (arith, x.long)) (rw c.from-at.ensures at c.if-not-self-at.true))
-
-pub returns-else-not-self-at : goal.returns-else-not-self-at
-returns-else-not-self-at c = marks_again (λ x. x ≡ c.args.h) c.args.self.now.marks (drop c.args.self.now.next c.args.self.now.found.items) (λ x q. subst (Marked c.args.self.now.marks) (c.from-at.ensures ∙ sym q) c.if-not-self-at.false)
