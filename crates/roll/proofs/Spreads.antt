@@ -42,9 +42,6 @@ module _ (ps : List Pair) (m : ℕ) (up : RisingPairs ps) where
       (λ ge. let e : i ≡ j = omega arith in subst (λ x. (get_or ps i d).member ≤ (get_or ps x d).member) e (omega arith))
       (cases_lt i j)
 
-  pub halving_none : Halving ps m 0 (length ps)
-  halving_none = record { order = omega arith; inside = omega arith; below = λ k d l h. absurd (omega arith); above = λ k d l h. absurd (omega arith) }
-
   module _ (low high mid : ℕ) (e : Pair) (old : Halving ps m low high) (from : low ≤ mid) (to : mid < high) where
     here : (d : Pair) → (get_or ps mid d).member ≡ (get_or ps mid e).member
     here d = ap (λ x. x.member) (get_or_default ps mid d e (omega (arith, old.inside)))
@@ -65,16 +62,7 @@ module _ (ps : List Pair) (m : ℕ) (up : RisingPairs ps) where
       above = λ k d l less. omega (arith, members_rise mid k d l less, here d, h);
     }
 
-  pub halving_all : (low high : ℕ) → Halving ps m low high → high ≤ low → Start ps m low
-  halving_all low high h done = let e : high ≡ low = omega (arith, h.order) in record { below = h.below; above = subst (λ x. AllWithin (λ q. m ≤ q.member) ps x (length ps)) e h.above }
-
   module _ (first : ℕ) (parts : Start ps m first) where
-    pub spread_none : (h : ℕ) → Among ps (first + 0) (pair m h) → ⊥
-    spread_none h a =
-        let e = ap (λ x. x.member) (get_or_from_slice_get ps a.0 (pair m h) (pair m h) a.2) in
-        let b = parts.below a.0 (pair m h) (omega arith) (omega (arith, a.1)) in
-        omega arith
-
     module _ (k : ℕ) (d : Pair) where
       pub spread_more : k < length (rest ps first) → (get_or (rest ps first) k d).member ≡ m → (h : ℕ) → Among ps (first + k) (pair m h) ⊎ (h ≡ (get_or (rest ps first) k d).group) → Among ps (first + (k + 1)) (pair m h)
       spread_more l e h = ⊎_elim

@@ -46,10 +46,6 @@ marked_none n h e = ⊎_elim
 pub room_one : (h : ℕ) → h < 256 → 1 + unmarked (set (replicate 256 false) h true) ≡ 256
 room_one h l = omega (arith, unmarked_less (replicate 256 false) h l (get_or-replicate 256 h false false l), unmarked_all 256)
 
--- nothing more is marked where all of P is marked already
-pub marks_again : (P : ℕ → Type 0) (marks : List Bool) (todo : List ℕ) → ((h : ℕ) → P h → Marked marks h) → Marks P marks marks todo todo
-marks_again P marks todo all = record { grows = λ h e. e; takes = all; only = λ h e. inl e; stays = λ h i. i; listed = λ h i. inl i; less = omega arith }
-
 -- a subject that was not marked
 pub marks_one : (marks : List Bool) (todo : List ℕ) (h : ℕ) → h < length marks → get_or marks h false ≡ false → Marks (λ x. x ≡ h) marks (set marks h true) todo (todo ++ h ∷ [])
 marks_one marks todo h l e = record {

@@ -5,7 +5,6 @@ use Rattle.roll.proofs.Spreads.{Among, among_in, spread_more, spread_back, sprea
 use Rattle.roll.proofs.Walks.{marks_like, marks_both}
 use Rattle.roll.proofs.reached.spread.Goals as goal
 
-
 pub returns-then-p-m : goal.returns-then-p-m
 returns-then-p-m c =
     let past = spread_past c.args.pairs.now c.args.m c.requires c.start-first.result c.start-first.ensures.start c.loop-p.p-index (pair 0 0) (λ _. c.if-p-m.true) in
