@@ -6,9 +6,9 @@ here=$(cd "$(dirname "$0")/.." && pwd)
 work=$(mktemp -d)
 trap 'rm -rf "$work"' EXIT
 mkdir -p "$work/crates/rolls_bench/src" "$work/crates/rolls_bench/specs" "$work/crates/rolls_bench/proofs"
-(cd "$here/crates" && tar --exclude=out --exclude=must-fail -cf - rights roll) | tar -xf - -C "$work/crates"
+(cd "$here/crates" && tar --exclude=out --exclude=must-fail -cf - rights rising roll) | tar -xf - -C "$work/crates"
 touch "$work/crates/rolls_bench/specs/Lib.antt" "$work/crates/rolls_bench/proofs/Lib.antt"
-printf 'rights:\nroll: rights\nrolls_bench staticlib: rights roll\n' > "$work/crates.txt"
+printf 'rights:\nrising: rights\nroll: rights rising arrayvec\nrolls_bench staticlib: rights roll\n' > "$work/crates.txt"
 cat > "$work/crates/rolls_bench/src/lib.rt" <<'SOURCE'
 // Puts 2,048 pairs, asks 65,536 questions and takes all pairs, on either roll.
 #![tactic(auto)]

@@ -1,79 +1,102 @@
--- A pair more at its place, and a list without one place, which stays sound.
-use Rattle.std.proofs.Common.{◌≡◌, ℕ, zero, suc, ◌+◌, ◌-◌, ◌<◌, ◌≤◌, true, List, [], ◌∷◌, length, get_or, take, drop, set, sym, ap, ◌∙◌, subst, inl, inr, arith}
-use lib.Seq.{paste}
-use Rattle.std.specs.List.{insert, remove, AllByRecursion}
-use Rattle.std.proofs.lemmas.List.Edits.{length-insert, length-remove}
+-- A pair more at its place, and a list without one place: what a put and a take leave, which is kept well.
+use Rattle.std.proofs.Common.{◌≡◌, ◌↔◌, ℕ, ◌+◌, ◌<◌, ◌≤◌, true, IsOk, OnOk, OnSome, Option, Result, List, length, take, drop, sym, ◌∙◌, subst, arith}
+use Rattle.std.specs.List.{slice_get, insert, remove, AllByRecursion}
 use Rattle.std.proofs.ByRecursion.{All-from_get_or}
 use Rattle.std.proofs.lemmas.List.{get_or-take, get_or-drop, length-take-le, length-drop}
+use Rattle.std.proofs.lemmas.Option.{slice_get_within, get_or_from_slice_get}
 use Rattle.rights.specs.declared.entries.Pair.{Pair}
 use Rattle.rights.specs.Lists.{In}
-use Rattle.rights.specs.Pairs.{Before, Proper, RisingPairs}
-use Rattle.rights.proofs.Shifts.{shifted_up, shifted_down, front_joined, past_joined}
-use Rattle.rights.proofs.Within.{loopless_fewer}
-use Rattle.roll.specs.Pairs.{before, added}
-use Rattle.roll.specs.Places.{Place}
-use Rattle.roll.specs.Sound.{Sound}
-use Rattle.roll.proofs.Lists.{all_in, all_from_in, added_at}
-use Rattle.roll.proofs.Orders.{before_other}
-use Rattle.roll.proofs.Places.{in_at}
+use Rattle.rights.specs.Pairs.{RisingPairs}
+use Rattle.rising.specs.Fronts.{stored, whole, SameRest, Refilled}
+use Rattle.rising.specs.declared.fronts.Front.{Front}
+use Rattle.roll.specs.Pairs.{before, added, dropped}
+use Rattle.roll.specs.Places.{StandsAt, Gap}
+use Rattle.roll.specs.Refusals.{Addable}
+use Rattle.roll.specs.Sound.{Kept}
+use Rattle.roll.proofs.Lists.{added_at, dropped_at, length_added, length_dropped}
+use Rattle.roll.proofs.Orders.{before_so}
+use Rattle.roll.proofs.Places.{stands_in}
+use Rattle.roll.proofs.Puts.{on_ok}
+use Rattle.roll.proofs.Sounds.{sound_added, sound_dropped}
 
-in_removed : (xs : List Pair) (i : ℕ) (x : Pair) → In x (remove xs i) → In x xs
-in_removed [] zero x j = j
-in_removed [] (suc i) x j = j
-in_removed (y ∷ ys) zero x j = inr j
-in_removed (y ∷ ys) (suc i) x (inl e) = inl e
-in_removed (y ∷ ys) (suc i) x (inr j) = inr (in_removed ys i x j)
-
-rising_removed : (xs : List Pair) (i : ℕ) → RisingPairs xs → RisingPairs (remove xs i)
-rising_removed [] zero up = tt
-rising_removed [] (suc i) up = tt
-rising_removed (y ∷ ys) zero up = up.1
-rising_removed (y ∷ ys) (suc i) up = (all_from_in (Before y) (remove ys i) (λ x j. all_in (Before y) ys x up.0 (in_removed ys i x j)), rising_removed ys i up.1)
-
-pub sound_removed : (xs : List Pair) (i : ℕ) → Sound xs → Sound (remove xs i)
-sound_removed xs i old = record {
-  rising = rising_removed xs i old.rising;
-  proper = all_from_in Proper (remove xs i) (λ x j. all_in Proper xs x old.proper (in_removed xs i x j));
-  loopless = loopless_fewer xs (remove xs i) (in_removed xs i) old.loopless;
-}
-
--- a new pair is added at its place
-place_added : (ps : List Pair) (p : Pair) (k : ℕ) → Place ps p k → (In p ps → ⊥) → added p ps ≡ insert ps k p
-place_added ps p k at new = added_at p ps k below above
+-- a pair that does not stand is added where it would stand
+pub gap_added : (ps : List Pair) (p : Pair) (k : ℕ) → Gap ps p k → added p ps ≡ insert ps k p
+gap_added ps p k gap = added_at p ps k below above
   where
     below : AllByRecursion (λ q. before q p ≡ true) (take k ps)
     below = All-from_get_or (λ q. before q p ≡ true) (take k ps) p (λ i l.
-        let h : i < k = omega (arith, length-take-le k ps at.inside) in
-        subst (λ x. before x p ≡ true) (sym (get_or-take k ps i p h)) (at.below i p (omega arith) h))
+        let h : i < k = omega (arith, length-take-le k ps gap.inside) in
+        subst (λ x. before x p ≡ true) (sym (get_or-take k ps i p h)) (before_so _ _ (gap.below i p (omega arith) h)))
 
     above : AllByRecursion (λ q. before p q ≡ true) (drop k ps)
     above = All-from_get_or (λ q. before p q ≡ true) (drop k ps) p (λ i l.
         let h : k + i < length ps = omega (arith, length-drop k ps) in
-        subst (λ x. before p x ≡ true) (sym (get_or-drop k ps i p))
-        (before_other p (get_or ps (k + i) p) (at.above (k + i) p (omega arith) h) (λ e. new (subst (λ x. In x ps) e (in_at ps (k + i) p h)))))
+        subst (λ x. before p x ≡ true) (sym (get_or-drop k ps i p)) (before_so _ _ (gap.above (k + i) p (omega arith) h)))
 
--- the first n places of the list, after a copy within it that makes a place or closes one
-module _ (list after : List Pair) (n k : ℕ) where
-  pub moved_in : (p : Pair) → n < length list → Place (take n list) p k → (In p (take n list) → ⊥) → after ≡ set (paste list (k + 1) (drop k list) (n - k)) k p → take (n + 1) after ≡ added p (take n list)
-  moved_in p room at new is =
-      let size = length-take-le n list (omega arith) in
-      let more = length-insert (take n list) k p at.inside in
-      ap (take (n + 1)) (is ∙ shifted_up k n list p (omega (arith, at.inside)) room) ∙ front_joined (n + 1) (insert (take n list) k p) _ (omega arith) ∙ sym (place_added (take n list) p k at new)
+pub kept_added : (ps : List Pair) (p : Pair) (ceiling : ℕ) → Kept ps ceiling → length ps < ceiling → Addable ps p → Kept (added p ps) ceiling
+kept_added ps p ceiling old room may = record {
+  sound = sound_added ps p.member p.group old.sound may.proper may.new may.apart;
+  few = omega (arith, length_added p ps);
+  limit = old.limit;
+}
 
-  pub past_in : (p : Pair) → n < length list → Place (take n list) p k → after ≡ set (paste list (k + 1) (drop k list) (n - k)) k p → drop (n + 1) after ≡ drop (n + 1) list
-  past_in p room at is =
-      let size = length-take-le n list (omega arith) in
-      let more = length-insert (take n list) k p at.inside in
-      ap (drop (n + 1)) (is ∙ shifted_up k n list p (omega (arith, at.inside)) room) ∙ past_joined (n + 1) (insert (take n list) k p) _ (omega arith)
+pub kept_dropped : (ps : List Pair) (p : Pair) (ceiling : ℕ) → Kept ps ceiling → In p ps → Kept (dropped p ps) ceiling
+kept_dropped ps p ceiling old here = record {
+  sound = sound_dropped ps p.member p.group old.sound;
+  few = omega (arith, old.few, length_dropped p ps here);
+  limit = old.limit;
+}
 
-  pub past_out : k < n → n ≤ length list → after ≡ paste list k (drop (k + 1) list) (n - (k + 1)) → drop (n - 1) after ≡ drop (n - 1) list
-  past_out less room is =
-      let size = length-take-le n list room in
-      let fewer = length-remove (take n list) k (omega arith) in
-      ap (drop (n - 1)) (is ∙ shifted_down k n list less) ∙ past_joined (n - 1) (remove (take n list) k) _ (omega arith)
+pub stands_dropped : (ps : List Pair) (p : Pair) (k : ℕ) → RisingPairs ps → StandsAt ps p k → dropped p ps ≡ remove ps k
+stands_dropped ps p k up at = dropped_at p ps k p up (slice_get_within ps k p at) (get_or_from_slice_get ps k p p at)
 
-  pub moved_out : k < n → n ≤ length list → after ≡ paste list k (drop (k + 1) list) (n - (k + 1)) → take (n - 1) after ≡ remove (take n list) k
-  moved_out less room is =
-      let size = length-take-le n list room in
-      let fewer = length-remove (take n list) k (omega arith) in
-      ap (take (n - 1)) (is ∙ shifted_down k n list less) ∙ front_joined (n - 1) (remove (take n list) k) _ (omega arith)
+-- after an insertion that had room
+pub record PutIn (f after : Front Pair) (most : ℕ) (p : Pair) (r : Result (Unit {0}) Pair) : Type 0 where
+  pub went : IsOk r
+  pub adds : stored after ≡ added p (stored f)
+  pub room : most ≤ length (whole after)
+  pub kept : Kept (stored after) most
+  pub rest : SameRest f after
+
+pub put_in : (f after : Front Pair) (most k : ℕ) (p : Pair) (r : Result (Unit {0}) Pair) → most ≤ length (whole f) → Kept (stored f) most → Gap (stored f) p k → Addable (stored f) p → (length (stored f) ≡ most → ⊥) →
+    IsOk r ↔ ((k ≤ length (stored f)) × (length (stored f) < length (whole f))) → OnOk r (Refilled f (insert (stored f) k p) after) → PutIn f after most p r
+put_in f after most k p r room kept gap may part done ok = record {
+  went = went;
+  adds = adds;
+  room = omega (arith, fill.long, room);
+  kept = subst (λ K. Kept K most) (sym adds) (kept_added (stored f) p most kept less may);
+  rest = fill.rest;
+}
+  where
+    less : length (stored f) < most
+    less = omega (arith, kept.few, part)
+
+    went : IsOk r
+    went = done.1 (gap.inside, omega (arith, less, room))
+
+    fill : Refilled f (insert (stored f) k p) after
+    fill = on_ok r _ went ok
+
+    adds : stored after ≡ added p (stored f)
+    adds = fill.holds ∙ sym (gap_added (stored f) p k gap)
+
+-- after a removal of what stood there
+pub record TakenOut (f after : Front Pair) (most : ℕ) (p : Pair) : Type 0 where
+  pub drops : stored after ≡ dropped p (stored f)
+  pub room : most ≤ length (whole after)
+  pub kept : Kept (stored after) most
+  pub rest : SameRest f after
+
+pub taken_out : (f after : Front Pair) (most k : ℕ) (p : Pair) (o : Option Pair) → most ≤ length (whole f) → Kept (stored f) most → StandsAt (stored f) p k → o ≡ slice_get (stored f) k → OnSome o (Refilled f (remove (stored f) k) after) → TakenOut f after most p
+taken_out f after most k p o room kept at is some = record {
+  drops = drops;
+  room = omega (arith, fill.long, room);
+  kept = subst (λ K. Kept K most) (sym drops) (kept_dropped (stored f) p most kept (stands_in (stored f) p k at));
+  rest = fill.rest;
+}
+  where
+    fill : Refilled f (remove (stored f) k) after
+    fill = subst (λ x. OnSome x (Refilled f (remove (stored f) k) after)) (is ∙ at) some
+
+    drops : stored after ≡ dropped p (stored f)
+    drops = fill.holds ∙ sym (stands_dropped (stored f) p k kept.sound.rising at)

@@ -1,93 +1,46 @@
--- Halving a rising list until a pair's place is found.
-use Rattle.std.proofs.Common.{◌≡◌, ℕ, zero, suc, ◌+◌, ◌<◌, ◌≤◌, Bool, true, false, List, [], ◌∷◌, length, get_or, is_some, Some, None, Decides, Option, sym, refl, ap, ◌∙◌, subst, inl, inr, ⊎_elim, arith}
-use Rattle.std.specs.List.{AllWithin}
-use Rattle.std.proofs.ByRecursion.{All-get_or}
-use Rattle.std.proofs.lemmas.List.{get_or_default}
-use Rattle.std.proofs.lemmas.Bool.{cases_Bool, cases_lt, both_ways}
+-- Where a pair stands in a rising list, or would stand: what a search by halving tells.
+use Rattle.std.proofs.Common.{◌≡◌, ℕ, zero, suc, ◌<◌, List, [], ◌∷◌, length, get_or, Some, Ok, Err, Result, MatchResult, Option, refl, ap, ◌∙◌, subst, inl, inr, ⊎_elim, arith}
+use Rattle.std.specs.List.Sorted.{IsBinarySearchResult, IsSearchInRange}
+use Rattle.std.specs.Option.{ok_or}
+use Rattle.std.specs.Result.{result_err}
+use Rattle.std.proofs.lemmas.Option.{slice_get-get_or, slice_get_within, get_or_from_slice_get}
+use Rattle.std.proofs.lemmas.Bool.{cases_lt}
 use Rattle.rights.specs.declared.entries.Pair.{Pair}
+use Rattle.rights.specs.declared.faults.RollFault.{RollFault}
 use Rattle.rights.specs.Lists.{In}
 use Rattle.rights.specs.Pairs.{Before, RisingPairs}
-use Rattle.roll.specs.Pairs.{before}
-use Rattle.roll.specs.Places.{Place, Found}
-use Rattle.roll.proofs.Orders.{before_self, before_so, before_trans}
-
-pub rising_at : (ps : List Pair) → RisingPairs ps → (i j : ℕ) (d : Pair) → i < j → j < length ps → Before (get_or ps i d) (get_or ps j d)
-rising_at [] up i j d l h = absurd (omega arith)
-rising_at (p ∷ ps) up i zero d l h = absurd (omega arith)
-rising_at (p ∷ ps) up zero (suc j) d l h = All-get_or (Before p) ps j d (omega arith) up.0
-rising_at (p ∷ ps) up (suc i) (suc j) d l h = rising_at ps up.1 i j d (omega arith) (omega arith)
-
--- what comes before p stands below low, what does not from high on; between is not settled
-pub record Halving (ps : List Pair) (p : Pair) (low high : ℕ) : Type 0 where
-  pub order : low ≤ high
-  pub inside : high ≤ length ps
-  pub below : AllWithin (λ q. before q p ≡ true) ps 0 low
-  pub above : AllWithin (λ q. before q p ≡ false) ps high (length ps)
-
-module _ (ps : List Pair) (p : Pair) where
-  pub halving_none : Halving ps p 0 (length ps)
-  halving_none = record { order = omega arith; inside = omega arith; below = λ k d l h. absurd (omega arith); above = λ k d l h. absurd (omega arith) }
-
-  module _ (up : RisingPairs ps) (low high mid : ℕ) (old : Halving ps p low high) (from : low ≤ mid) (to : mid < high) where
-    at_any : (b : Bool) (e : Pair) → before (get_or ps mid e) p ≡ b → (d : Pair) → before (get_or ps mid d) p ≡ b
-    at_any b e h d = ap (λ x. before x p) (get_or_default ps mid d e (omega (arith, old.inside))) ∙ h
-
-    pub halving_above : (e : Pair) → before (get_or ps mid e) p ≡ true → Halving ps p (mid + 1) high
-    halving_above e h = let here = at_any true e h in record {
-      order = omega arith;
-      inside = old.inside;
-      below = λ k d _ h. ⊎_elim
-          (λ l. before_trans (get_or ps k d) (get_or ps mid d) p (before_so (get_or ps k d) (get_or ps mid d) (rising_at ps up k mid d l (omega (arith, old.inside)))) (here d))
-          (λ l. let e : k ≡ mid = omega arith in subst (λ x. before (get_or ps x d) p ≡ true) (sym e) (here d))
-          (cases_lt k mid);
-      above = old.above;
-    }
-
-    pub halving_below : (e : Pair) → before (get_or ps mid e) p ≡ false → Halving ps p low mid
-    halving_below e h = let here = at_any false e h in record {
-      order = from;
-      inside = omega (arith, old.inside);
-      below = old.below;
-      above = λ k d l h. ⊎_elim
-          (λ e. absurd (both_ways (before (get_or ps mid d) p) (here d) (⊎_elim
-          (λ lt. before_trans (get_or ps mid d) (get_or ps k d) p (before_so (get_or ps mid d) (get_or ps k d) (rising_at ps up mid k d lt h)) e)
-          (λ ge. let q : k ≡ mid = omega arith in subst (λ x. before (get_or ps x d) p ≡ true) q e)
-          (cases_lt mid k))))
-          (λ e. e)
-          (cases_Bool (before (get_or ps k d) p));
-    }
-
-  pub halving_all : (low high : ℕ) → Halving ps p low high → high ≤ low → Place ps p low
-  halving_all low high h done = let e : high ≡ low = omega (arith, h.order) in record { inside = omega (arith, h.inside); below = h.below; above = subst (λ x. AllWithin (λ q. before q p ≡ false) ps x (length ps)) e h.above }
-
--- what stands in a list stands at a place, and the other way
-pub place_of : (ps : List Pair) (x d : Pair) → In x ps → (j : ℕ) × (j < length ps) × (get_or ps j d ≡ x)
-place_of [] x d i = absurd i
-place_of (p ∷ ps) x d (inl e) = (0, omega arith, sym e)
-place_of (p ∷ ps) x d (inr i) = let o = place_of ps x d i in (suc o.0, omega (arith, o.1), o.2)
+use Rattle.rights.proofs.Derived.{pair_order}
+use Rattle.rights.proofs.Pairs.{pair_one_way, pair_transitive}
+use Rattle.rights.specs.contracts.entries.PairOrd.TheImpl as pair_ord
+use Rattle.rising.proofs.Sought.{Belongs, in_place, sought}
+use Rattle.roll.specs.Places.{StandsAt, Gap}
 
 pub in_at : (ps : List Pair) (j : ℕ) (d : Pair) → j < length ps → In (get_or ps j d) ps
 in_at [] j d l = absurd (omega arith)
 in_at (p ∷ ps) zero d l = inl refl
 in_at (p ∷ ps) (suc j) d l = inr (in_at ps j d (omega arith))
 
-module _ (ps : List Pair) (p : Pair) (k : ℕ) (up : RisingPairs ps) (here : Place ps p k) where
-  -- what stands in a rising list stands in its place
-  pub stands_there : (d : Pair) → In p ps → (k < length ps) × (get_or ps k d ≡ p)
-  stands_there d i =
-      let o = place_of ps p d i in
-      ⊎_elim
-      (λ lt. absurd (both_ways (before p p) (before_self p) (subst (λ x. before x p ≡ true) o.2 (here.below o.0 d (omega arith) lt))))
-      (λ ge. ⊎_elim
-      (λ lt. absurd (both_ways (before (get_or ps k d) p) (here.above k d (omega arith) (omega (arith, o.1))) (subst (λ x. before (get_or ps k d) x ≡ true) o.2 (before_so (get_or ps k d) (get_or ps o.0 d) (rising_at ps up k o.0 d lt o.1)))))
-      (λ le. let e : o.0 ≡ k = omega arith in (omega (arith, o.1), ap (λ x. get_or ps x d) (sym e) ∙ o.2))
-      (cases_lt k o.0))
-      (cases_lt o.0 k)
+-- what the search finds
+pub searched : (ps : List Pair) (p : Pair) (r : Result ℕ ℕ) → RisingPairs ps → IsSearchInRange r (length ps) → IsBinarySearchResult (λ q. (pair_ord.ghosts).cmp q p) ps r → MatchResult r (StandsAt ps p) (Gap ps p)
+searched ps p r up room found = by r (sought (pair_ord.ghosts).cmp Before pair_order (λ q h. pair_one_way q q h h) pair_transitive p ps r up room found)
+  where
+    by : (r : Result ℕ ℕ) → MatchResult r (λ k. (k < length ps) × (get_or ps k p ≡ p)) (λ k. (In p ps → ⊥) × Belongs (pair_ord.ghosts).cmp Before pair_order (λ q h. pair_one_way q q h h) pair_transitive p ps k) → MatchResult r (StandsAt ps p) (Gap ps p)
+    by (Ok k) h = slice_get-get_or ps k p h.0 ∙ ap Some h.1
+    by (Err k) h = record { inside = h.1.within; below = h.1.below; above = h.1.above }
 
-  pub stands_so : (d : Pair) → k < length ps → get_or ps k d ≡ p → In p ps
-  stands_so d l e = subst (λ x. In x ps) e (in_at ps k d l)
+-- a pair of which it is known where it would stand does not stand
+pub gap_absent : (ps : List Pair) (p : Pair) (k : ℕ) → Gap ps p k → In p ps → ⊥
+gap_absent ps p k gap i =
+    let o = in_place p ps i p in
+    ⊎_elim
+    (λ lt. pair_one_way p p (subst (λ q. Before q p) o.2 (gap.below o.0 p (omega arith) lt)) (subst (λ q. Before q p) o.2 (gap.below o.0 p (omega arith) lt)))
+    (λ ge. pair_one_way p p (subst (Before p) o.2 (gap.above o.0 p ge o.1)) (subst (Before p) o.2 (gap.above o.0 p ge o.1)))
+    (cases_lt o.0 k)
 
--- the place found tells whether the pair stands
-pub found_decides : (ps : List Pair) (p : Pair) (o : Option ℕ) (r : Bool) → Found ps p o → r ≡ is_some o → Decides r (In p ps)
-found_decides ps p None r f e = (λ t. absurd (both_ways r e t), λ i. absurd (f i))
-found_decides ps p (Some k) r f e = (λ _. subst (λ x. In x ps) (f.1 p) (in_at ps k p f.0), λ _. e)
+pub stands_in : (ps : List Pair) (p : Pair) (k : ℕ) → StandsAt ps p k → In p ps
+stands_in ps p k at = subst (λ x. In x ps) (get_or_from_slice_get ps k p p at) (in_at ps k p (slice_get_within ps k p at))
+
+-- the place where it would stand, or the fault f
+pub found_gap : (ps : List Pair) (p : Pair) (f : RollFault) (r : Result ℕ ℕ) (o : Option ℕ) (q : Result ℕ RollFault) → MatchResult r (StandsAt ps p) (Gap ps p) → o ≡ result_err r → q ≡ ok_or o f → MatchResult q (Gap ps p) (λ e. (e ≡ f) × In p ps)
+found_gap ps p f (Ok k) o q at e h = rw (h, e) (refl, stands_in ps p k at)
+found_gap ps p f (Err k) o q gap e h = rw (h, e) gap

@@ -1,15 +1,7 @@
 -- What each function of the table does to a row.
-use Rattle.std.proofs.Common.{◌≡◌, ℕ, ◌<◌, Bool, true, false, ◌&&◌, ◌||◌, eqb, List, get_or, Decides}
+use Rattle.std.proofs.Common.{◌≡◌, ℕ, ◌<◌, Bool, true, false, ◌&&◌, ◌||◌, List, get_or, Decides}
 use Rattle.rights.specs.declared.entries.Pair.{Pair}
 use Rattle.rights.specs.Within.{Within}
-
--- row k has k alone
-abbrev pub OnlyRow : ℕ → List Bool → List Bool → Type 0
-OnlyRow k row new = (h : ℕ) → h < 256 → get_or new h false ≡ eqb k h
-
--- two rows in one, place by place
-abbrev pub OrCell : List Bool → ℕ → Bool → Bool → Type 0
-OrCell above k old new = new ≡ (old || get_or above k false)
 
 abbrev pub JoinRow : ℕ → List Bool → ℕ → List Bool → List Bool → Type 0
 JoinRow m above k row new = (h : ℕ) → h < 256 → get_or new h false ≡ (get_or row h false || (get_or row m false && get_or above h false))

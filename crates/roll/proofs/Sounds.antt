@@ -1,12 +1,12 @@
 -- A sound list of pairs with a pair more or less: it stays sound, and who is then within whom.
-use Rattle.std.proofs.Common.{ℕ, List, [], ◌∷◌, sym, subst, ⊎_elim}
+use Rattle.std.proofs.Common.{◌≡◌, ℕ, ◌≤◌, List, [], ◌∷◌, sym, subst, ⊎_elim, arith}
 use Rattle.rights.specs.declared.entries.Pair.{Pair}
 use Rattle.rights.specs.Lists.{In}
 use Rattle.rights.specs.Pairs.{pair, Proper}
 use Rattle.rights.specs.Within.{Within}
 use Rattle.rights.proofs.Within.{Through, within_grows, within_more, within_through, loopless_none, loopless_fewer, loopless_more}
 use Rattle.roll.specs.Pairs.{added, dropped}
-use Rattle.roll.specs.Sound.{Sound}
+use Rattle.roll.specs.Sound.{Sound, Kept}
 use Rattle.roll.proofs.Lists.{all_in, all_from_in, in_added, added_in, in_dropped, rising_added, rising_dropped}
 
 pub sound_none : Sound []
@@ -33,3 +33,6 @@ module _ (ps : List Pair) (m g : ℕ) where
 
   pub added_within : (s h : ℕ) → Through ps m g s h → Within (added (pair m g) ps) s h
   added_within s h w = within_grows (pair m g ∷ ps) (added (pair m g) ps) (added_in (pair m g) ps) s h (within_through ps m g s h w)
+
+pub kept_none : (ps : List Pair) (ceiling : ℕ) → ps ≡ [] → ceiling ≤ 2048 → Kept ps ceiling
+kept_none ps ceiling none limit = rw none (record { sound = sound_none; few = omega arith; limit = limit })

@@ -1,8 +1,9 @@
-pub mod Kept
+pub mod PairRolls
 pub mod Pairs
 pub mod Places
+pub mod ReachRolls
 pub mod Refusals
 pub mod Sound
 pub mod Sure
-pub mod Walks
 pub mod Tables
+pub mod Walks

@@ -1,17 +1,20 @@
 -- Where a pair stands in a rising list, or would stand.
-use Rattle.std.specs.Prelude.{◌≡◌, ℕ, ◌<◌, ◌≤◌, true, false, List, length, Some, None, Option, slice_index_or}
+use Rattle.std.specs.Prelude.{◌≡◌, ℕ, ◌<◌, ◌≤◌, List, length, Some, slice_get}
 use Rattle.std.specs.List.{AllWithin}
 use Rattle.rights.specs.declared.entries.Pair.{Pair}
-use Rattle.rights.specs.Lists.{In}
-use Rattle.roll.specs.Pairs.{before}
+use Rattle.rights.specs.Pairs.{Before}
 
--- k places of the list come before p, and no other does
-pub record Place (ps : List Pair) (p : Pair) (k : ℕ) : Type 0 where
+-- p stands at place k
+abbrev pub StandsAt : List Pair → Pair → ℕ → Type 0
+StandsAt ps p k = slice_get ps k ≡ Some p
+
+-- k places of the list come before p, and p before all others: p does not stand, and would stand there
+pub record Gap (ps : List Pair) (p : Pair) (k : ℕ) : Type 0 where
   pub inside : k ≤ length ps
-  pub below : AllWithin (λ q. before q p ≡ true) ps 0 k
-  pub above : AllWithin (λ q. before q p ≡ false) ps k (length ps)
+  pub below : AllWithin (λ q. Before q p) ps 0 k
+  pub above : AllWithin (Before p) ps k (length ps)
 
--- k is where p stands, or p does not stand
-abbrev pub Found : List Pair → Pair → Option ℕ → Type 0
-Found ps p None = In p ps → ⊥
-Found ps p (Some k) = (k < length ps) × ((d : Pair) → slice_index_or ps k d ≡ p)
+-- the pairs of m begin at place k, or would begin there
+pub record Start (ps : List Pair) (m k : ℕ) : Type 0 where
+  pub below : AllWithin (λ q. q.member < m) ps 0 k
+  pub above : AllWithin (λ q. m ≤ q.member) ps k (length ps)

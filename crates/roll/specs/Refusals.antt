@@ -16,21 +16,6 @@ BothSubjects m g = SubjectNumber m × SubjectNumber g
 abbrev pub WithinRoll : List Pair → ℕ → ℕ → Type 0
 WithinRoll pairs s g = SubjectNumber s × SubjectNumber g × Within pairs s g
 
--- the first two checks of a put, which look at the pair alone
-abbrev pub fresh_checks : List Pair → ℕ → ℕ → List (Check RollFault)
-fresh_checks pairs m g =
-    refuse RollFault.BadNumber (BothSubjects m g → ⊥)
-    ∷ refuse RollFault.Taken (In (pair m g) pairs)
-    ∷ []
-
--- the checks of a put but the last
-abbrev pub loop_checks : List Pair → ℕ → ℕ → List (Check RollFault)
-loop_checks pairs m g =
-    refuse RollFault.BadNumber (BothSubjects m g → ⊥)
-    ∷ refuse RollFault.Taken (In (pair m g) pairs)
-    ∷ refuse RollFault.Loop (Within pairs g m)
-    ∷ []
-
 -- the last check of a put
 abbrev pub full_checks : List Pair → ℕ → List (Check RollFault)
 full_checks pairs ceiling = refuse RollFault.Full (length pairs ≡ ceiling) ∷ []

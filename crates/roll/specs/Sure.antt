@@ -1,13 +1,12 @@
--- A list is sound in one way only: what a type keeps of it can be taken out whole.
-use Rattle.std.proofs.Math.Logic.{∥∥₁_elim}
-use Rattle.std.specs.Prelude.{List, [], ◌∷◌, refl}
+-- What every roll keeps is so in one way only.
+use Rattle.std.specs.Prelude.{ℕ, List, [], ◌∷◌, refl}
 use mathlib.Core.HLevel.{Π_prop, ×_prop}
 use Rattle.std.proofs.Math.Bridge.{le_prop}
 use Rattle.std.specs.List.{AllByRecursion}
 use Rattle.rights.specs.declared.entries.Pair.{Pair}
 use Rattle.rights.specs.Pairs.{Before, Proper, RisingPairs}
 use Rattle.rights.specs.Within.{Loopless}
-use Rattle.roll.specs.Sound.{Sound}
+use Rattle.roll.specs.Sound.{Sound, Kept}
 
 all_prop : (P : Pair → Type 0) → ((p : Pair) → IsProp (P p)) → (ps : List Pair) → IsProp (AllByRecursion P ps)
 all_prop P one [] = λ x y. refl
@@ -24,10 +23,13 @@ loopless_prop : (ps : List Pair) → IsProp (Loopless ps)
 unfolding Loopless
 loopless_prop ps = Π_prop (λ s. Π_prop (λ _. λ x. absurd x))
 
--- what a roll's type keeps of its pairs, taken out
-pub sound_sure : (ps : List Pair) → ∥ Sound ps ∥₁ → Sound ps
-sound_sure ps h = record {
-  rising = ∥∥₁_elim h (rising_prop ps) (λ s. s.rising);
-  proper = ∥∥₁_elim h (all_prop Proper proper_prop ps) (λ s. s.proper);
-  loopless = ∥∥₁_elim h (loopless_prop ps) (λ s. s.loopless);
+sound_prop : (ps : List Pair) → IsProp (Sound ps)
+sound_prop ps x y i = record {
+  rising = rising_prop ps x.rising y.rising i;
+  proper = all_prop Proper proper_prop ps x.proper y.proper i;
+  loopless = loopless_prop ps x.loopless y.loopless i;
 }
+
+-- so a type may keep it as it is
+pub kept_prop : (ps : List Pair) (ceiling : ℕ) → IsProp (Kept ps ceiling)
+kept_prop ps ceiling x y i = record { sound = sound_prop ps x.sound y.sound i; few = le_prop x.few y.few i; limit = le_prop x.limit y.limit i }

@@ -1,15 +1,12 @@
 // What a roll is, and the two rolls: the pair roll walks its pairs, the reach roll keeps a table.
 #![tactic(auto)]
 
-mod fresh;
-mod making;
 mod means;
 mod numbers;
 mod pair_roll;
 mod reach_roll;
 mod reached;
 mod search;
-mod store;
 mod table;
 
 pub use means::{Roll, RollMut};

@@ -1,5 +1,5 @@
 // What a roll means: a set of pairs without loops, and a ceiling that it keeps to.
-ghost use Rattle.std.specs.Prelude.{◌≡◌, ℕ, List, length, is_ok, if◌then◌else◌, Decides};
+ghost use Rattle.std.specs.Prelude.{◌≡◌, ◌↔◌, ℕ, List, length, is_ok, if◌then◌else◌, IsTrue};
 ghost use Rattle.rights.specs.declared.entries.Pair.{Pair};
 ghost use Rattle.rights.specs.Checks.{First, fault_of};
 ghost use Rattle.rights.specs.Lists.{In};
@@ -10,7 +10,7 @@ ghost use Rattle.roll.specs.Sound.{Kept};
 
 use rights::RollFault;
 
-// The half that only tells. Every roll is such a rising list of pairs, whatever it keeps.
+/// The half that only tells. Every roll is such a rising list of pairs, whatever it keeps.
 pub trait Roll {
     ghost pairs: { Self → List Pair };
 
@@ -19,32 +19,44 @@ pub trait Roll {
     // What every roll keeps.
     ghost laws: { (x : Self) → Kept (pairs x) (ceiling x) };
 
+    /// How many pairs stand.
     fn count(&self) -> usize
         ensures { result ≡ length (pairs self.now) };
 
+    /// How many pairs may stand.
     fn ceiling(&self) -> usize
         ensures { result ≡ ceiling self.now };
 
-    // Whether (m, g) is one of its pairs; never for a number out of range.
+    /// Whether (m, g) is one of its pairs; never for a number out of range.
     fn stands(&self, m: u16, g: u16) -> bool
-        ensures { Decides result (In (pair m g) (pairs self.now)) };
+        ensures { IsTrue result ↔ In (pair m g) (pairs self.now) };
 
-    // Whether s is within g; never for a number out of range.
+    /// Whether s is within g; never for a number out of range.
     fn within(&self, s: u16, g: u16) -> bool
-        ensures { Decides result (WithinRoll (pairs self.now) s g) };
+        ensures { IsTrue result ↔ WithinRoll (pairs self.now) s g };
 }
 
-// The half that also changes.
+/// The half that also changes.
 pub trait RollMut: Roll {
-    // Adds (m, g) and nothing else, or refuses.
-    fn put(&mut self, m: u16, g: u16) -> Result<(), RollFault>
-        ensures refuses { First (put_checks (Self.Roll.pairs self.old) (Self.Roll.ceiling self.old) m g) (fault_of result) }
-        ensures adds { Self.Roll.pairs self.new ≡ (if is_ok result then added (pair m g) (Self.Roll.pairs self.old) else Self.Roll.pairs self.old) }
-        ensures keeps { Self.Roll.ceiling self.new ≡ Self.Roll.ceiling self.old };
+    // What a change leaves of the caller's list past the pairs that stand.
+    ghost leaves_rest: { Self → Self → Type 0 } = { λ _ _. Unit {0} };
 
-    // Takes (m, g) out and nothing else, or refuses.
+    /// Adds (m, g) and nothing else, or refuses.
+    fn put(&mut self, m: u16, g: u16) -> Result<(), RollFault>
+        ensures refuses { First (put_checks (Self.pairs self.old) (Self.ceiling self.old) m g)
+            (fault_of result) }
+        ensures adds { Self.pairs self.new ≡ (if is_ok result
+            then added (pair m g) (Self.pairs self.old)
+            else Self.pairs self.old) }
+        ensures keeps { Self.ceiling self.new ≡ Self.ceiling self.old }
+        ensures rest { leaves_rest self.old self.new };
+
+    /// Takes (m, g) out and nothing else, or refuses.
     fn take(&mut self, m: u16, g: u16) -> Result<(), RollFault>
-        ensures refuses { First (take_checks (Self.Roll.pairs self.old) m g) (fault_of result) }
-        ensures drops { Self.Roll.pairs self.new ≡ (if is_ok result then dropped (pair m g) (Self.Roll.pairs self.old) else Self.Roll.pairs self.old) }
-        ensures keeps { Self.Roll.ceiling self.new ≡ Self.Roll.ceiling self.old };
+        ensures refuses { First (take_checks (Self.pairs self.old) m g) (fault_of result) }
+        ensures drops { Self.pairs self.new ≡ (if is_ok result
+            then dropped (pair m g) (Self.pairs self.old)
+            else Self.pairs self.old) }
+        ensures keeps { Self.ceiling self.new ≡ Self.ceiling self.old }
+        ensures rest { leaves_rest self.old self.new };
 }

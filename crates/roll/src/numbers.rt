@@ -1,19 +1,31 @@
 // Numbers as they come, and the numbers of subjects.
-ghost use Rattle.std.specs.Prelude.{◌≡◌, MatchOption};
+ghost use Rattle.std.specs.Prelude.{◌≡◌, MatchResult};
+ghost use Rattle.rights.specs.declared.faults.RollFault.{RollFault};
+ghost use Rattle.rights.specs.Numbers.{SubjectNumber};
 ghost use Rattle.rights.specs.Pairs.{pair};
 ghost use Rattle.roll.specs.Refusals.{BothSubjects};
 
-use rights::Pair;
+use rights::{Pair, RollFault};
+
+fn subject(number: u16) -> Result<u8, RollFault>
+    ensures { MatchResult result
+        (λ s. SubjectNumber number × (s ≡ number))
+        (λ f. (f ≡ RollFault.BadNumber) × ¬ SubjectNumber number) }
+{
+    u8::try_from(number)
+        .ok()
+        .filter(|s| *s != 0)
+        .ok_or(RollFault::BadNumber)
+}
 
 // The two, if both are numbers of subjects.
-pub(crate) fn both_subjects(m: u16, g: u16) -> Option<Pair>
-    ensures { MatchOption result (BothSubjects m g → ⊥) (λ p. BothSubjects m g × (p ≡ pair m g)) }
+pub(crate) fn both_subjects(m: u16, g: u16) -> Result<Pair, RollFault>
+    ensures { MatchResult result
+        (λ p. BothSubjects m g × (p ≡ pair m g))
+        (λ f. (f ≡ RollFault.BadNumber) × ¬ BothSubjects m g) }
 {
-    if m == 0 || m > 255 || g == 0 || g > 255 {
-        return None;
-    }
-    Some(Pair {
-        member: m as u8,
-        group: g as u8,
+    Ok(Pair {
+        member: subject(m)?,
+        group: subject(g)?,
     })
 }

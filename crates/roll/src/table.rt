@@ -1,53 +1,57 @@
 // The table of who is within whom: nobody yet, a pair more, a pair less.
 ghost use Rattle.std.specs.Prelude.{[]};
-ghost use Rattle.roll.specs.Kept.{stored, Held};
-ghost use Rattle.roll.specs.Tables.{Current, Merged, Joined, Renewed};
+ghost use Rattle.roll.specs.PairRolls.{pairs_of};
+ghost use Rattle.roll.specs.Tables.{Current, RowOf, Merged, Joined, Renewed};
 
-use crate::store::Store;
+use crate::pair_roll::PairRoll;
+use rights::Pair;
+use std::array;
+
+// The row of s, with s alone.
+fn row_of(s: usize) -> [bool; 256]
+    ensures { RowOf s result }
+{
+    array::from_fn(|h| s == h)
+}
 
 // Every number within itself alone.
 pub(crate) fn alone() -> [[bool; 256]; 256]
     ensures { Current [] result }
 {
-    let mut table = [[false; 256]; 256];
-    for s in 0..256 {
-        let mut row = table[s];
-        row[s] = true;
-        table[s] = row;
-    }
-    table
+    array::from_fn(
+        |s|
+            ensures { RowOf s result }
+        { row_of(s) },
+    )
 }
 
-fn merged(mut row: [bool; 256], above: &[bool; 256]) -> [bool; 256]
-    ensures { Merged row above.now result }
+fn merged(row: &[bool; 256], above: &[bool; 256]) -> [bool; 256]
+    ensures { Merged row.now above.now result }
 {
-    for h in 0..256 {
-        row[h] = row[h] | above[h];
-    }
-    row
+    array::from_fn(|h| row[h] | above[h])
 }
 
-// Who is within m is now within all that g is within.
-pub(crate) fn join(table: &mut [[bool; 256]; 256], m: u8, g: u8)
-    ensures { Joined m g table.old table.new }
+// Who is within the pair's member is now within all that its group is within.
+pub(crate) fn join(table: &mut [[bool; 256]; 256], p: Pair)
+    ensures { Joined p.member p.group table.old table.new }
 {
-    let above = table[g as usize];
+    let above = table[usize::from(p.group)];
+    // tried: `for row in table`; after `iter_mut` a proof knows the table's length, and no row
     for s in 0..256 {
-        if table[s][m as usize] {
-            let row = table[s];
-            table[s] = merged(row, &above);
+        if table[s][usize::from(p.member)] {
+            table[s] = merged(&table[s], &above);
         }
     }
 }
 
 // Finds anew the rows of all that was within m.
-pub(crate) fn renew(table: &mut [[bool; 256]; 256], store: &Store<'_>, m: u8)
-    requires { Held store.now }
-    ensures { Renewed (stored store.now) m table.old table.new }
+pub(crate) fn renew(table: &mut [[bool; 256]; 256], pairs: &PairRoll<'_>, m: u8)
+    ensures { Renewed (pairs_of pairs.now) m table.old table.new }
 {
-    for s in 0..256 {
-        if table[s][m as usize] {
-            table[s] = store.reached(s as u8);
+    // by place, for the reason in `join`
+    for s in 0..=255 {
+        if table[usize::from(s)][usize::from(m)] {
+            table[usize::from(s)] = pairs.reached(s);
         }
     }
 }

@@ -19,7 +19,7 @@ fn main(rt: HostRuntime) -> io::Result<()> {
     let mut second = [NONE; 2048];
     let mut a = PairRoll::new(&mut first, 2048);
     let mut b = ReachRoll::new(&mut second, 2048);
-    let mut tally = Tally::none();
+    let mut tally = Tally::default();
     stories::diamond(&mut a, &mut b, &mut tally);
     println!(rt; "diamond {tally:?}")?;
     stories::chain(&mut a, &mut b, &mut tally);

@@ -1,5 +1,5 @@
 // Code over any roll: a change, a question both ways round, and two rolls compared.
-ghost use Rattle.std.specs.Prelude.{◌≡◌, ◌⊎◌, Decides};
+ghost use Rattle.std.specs.Prelude.{◌≡◌, ◌↔◌, ◌⊎◌, IsTrue};
 ghost use Rattle.roll.specs.Refusals.{WithinRoll};
 
 use rights::RollFault;
@@ -13,7 +13,7 @@ pub enum Change {
 
 // How many changes were tried, the sum of the refusals' numbers, how many questions were compared,
 // and how many answers differed.
-#[derive(Clone, Copy, Debug)]
+#[derive(Clone, Copy, Debug, Default)]
 pub struct Tally {
     pub changes: u32,
     pub refusals: u32,
@@ -21,35 +21,20 @@ pub struct Tally {
     pub different: u32,
 }
 
-impl Tally {
-    pub(crate) fn none() -> Tally {
-        Tally {
-            changes: 0,
-            refusals: 0,
-            asked: 0,
-            different: 0,
-        }
-    }
-}
-
 // Whether one of the two is within the other.
 pub(crate) fn related<R: Roll>(roll: &R, s: u16, g: u16) -> bool
-    ensures { Decides result (WithinRoll (R.Roll.pairs roll.now) s g ⊎ WithinRoll (R.Roll.pairs roll.now) g s) }
+    ensures { IsTrue result ↔ (WithinRoll (R.Roll.pairs roll.now) s g ⊎ WithinRoll (R.Roll.pairs roll.now) g s) }
 {
     roll.within(s, g) || roll.within(g, s)
 }
 
-// The refusal's number, or 0. A change that is refused changes nothing, and none changes the ceiling.
-pub(crate) fn apply<R: RollMut>(roll: &mut R, c: Change) -> u8
+// A change that is refused changes nothing, and none changes the ceiling.
+pub(crate) fn apply<R: RollMut>(roll: &mut R, c: Change) -> Result<(), RollFault>
     ensures ceiling { R.Roll.ceiling roll.new ≡ R.Roll.ceiling roll.old }
 {
-    let done = match c {
+    match c {
         Change::Put(m, g) => roll.put(m, g),
         Change::Take(m, g) => roll.take(m, g),
-    };
-    match done {
-        Ok(()) => 0,
-        Err(fault) => fault.number(),
     }
 }
 
@@ -78,21 +63,17 @@ pub(crate) fn ask_all<A: Roll, B: Roll>(a: &A, b: &B, tally: &mut Tally) {
 }
 
 // The same change on both, and what they then tell of its subjects.
-pub(crate) fn both<A: RollMut, B: RollMut>(
-    a: &mut A,
-    b: &mut B,
-    tally: &mut Tally,
-    c: Change,
-) -> u8 {
+pub(crate) fn both<A: RollMut, B: RollMut>(a: &mut A, b: &mut B, tally: &mut Tally, c: Change) {
     let first = apply(a, c);
     let second = apply(b, c);
     tally.changes = tally.changes.wrapping_add(1);
-    tally.refusals = tally.refusals.wrapping_add(first as u32);
+    if let Err(fault) = first {
+        tally.refusals = tally.refusals.wrapping_add(u32::from(fault.number()));
+    }
     if first != second || a.count() != b.count() || a.ceiling() != b.ceiling() {
         tally.different = tally.different.wrapping_add(1);
     }
     let (Change::Put(m, g) | Change::Take(m, g)) = c;
     ask_row(a, b, tally, m);
     ask_row(a, b, tally, g);
-    first
 }

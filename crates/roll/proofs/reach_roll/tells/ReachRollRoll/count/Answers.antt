@@ -1,5 +1,0 @@
-use Rattle.roll.specs.Kept.{held_sure}
-use Rattle.roll.proofs.reach_roll.tells.ReachRollRoll.count.Goals as goal
-
-pub size-requires : goal.size-requires
-size-requires c = held_sure c.args.self.now.store c.args.self.now.held
