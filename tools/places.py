@@ -33,6 +33,18 @@ def lines(pattern):
 FN = re.compile(r'^( *)((?:pub(?:\(crate\))? )?(?:const )?fn (\w+)[^{;]*?)(?=\n? *(?:requires|ensures|\{)|;)', re.M)
 
 
+def clauses_of(part):
+    """The facts of the contract at the head of a function, each from brace to brace, on one line."""
+    out = []
+    for m in re.finditer(r'^ *(?:ensures|requires)(?: \w+)? *\{', part, re.M):
+        depth, end = 1, m.end()
+        while end < len(part) and depth:
+            depth += {'{': 1, '}': -1}.get(part[end], 0)
+            end += 1
+        out.append(' '.join(part[m.end():end - 1].split()))
+    return out
+
+
 def functions():
     """(file, line, name, signature, clauses, body) of every function."""
     out = []
@@ -44,7 +56,7 @@ def functions():
             end = re.search(r'^' + indent + r'\}', rest, re.M)
             stop = re.search(r'^' + indent + r'(?:pub|fn|\}|ghost)', rest[1:], re.M)
             part = rest[:end.end()] if end else rest[:stop.start() if stop else None]
-            clauses = re.findall(r'^ *((?:ensures|requires)[^\n]*)', part, re.M)
+            clauses = clauses_of(part)
             body = re.split(r'^' + indent + r'\{', part, maxsplit=1, flags=re.M)
             body = body[1] if len(body) > 1 else ''
             line = text.count('\n', 0, m.start()) + 1
@@ -84,9 +96,8 @@ def clauses():
     """Facts that stand in the contracts of three or more functions."""
     by = defaultdict(list)
     for f, n, name, _, cl, _ in functions():
-        for c in cl:
-            body = re.sub(r'^(ensures|requires) (\w+ )?', '', c)
-            by[body].append(f'{f}:{n} {name}')
+        for fact in cl:
+            by[fact].append(f'{f}:{n} {name}')
     return [f'{len(v)} times: {k}' for k, v in sorted(by.items(), key=lambda x: -len(x[1])) if len(v) >= 3]
 
 

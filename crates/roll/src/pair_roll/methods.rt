@@ -112,11 +112,8 @@ impl Roll for PairRoll<'_> {
     }
 
     fn within(&self, s: u16, g: u16) -> bool {
-        // tried: `is_ok_and`; of a closure that holds a roll a proof learns nothing of its answer
-        match both_subjects(s, g) {
-            Ok(p) => self.reached(p.member)[usize::from(p.group)],
-            Err(_) => false,
-        }
+        let pairs = self.front.as_slice();
+        both_subjects(s, g).is_ok_and(|p| walk(pairs, p.member)[usize::from(p.group)])
     }
 }
 
