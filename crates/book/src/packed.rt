@@ -1,4 +1,5 @@
-// The cell book, in the caller's list: one cell for each subject, table and grantor that has an entry.
+// The cell book, in the caller's list: one cell for each subject, table and grantor that has an
+// entry.
 ghost use Rattle.std.specs.Prelude.{◌≡◌, ◌≤◌, true, length};
 ghost use Rattle.rights.specs.Entries.{sound};
 ghost use Rattle.book.specs.Cells.{held, climbs, numbered};

@@ -1,4 +1,5 @@
-// A host's program. It works with the three states as types, and then with one sitting in whichever state.
+// A host's program. It works with the three states as types, and then with one sitting in whichever
+// state.
 #![tactic(auto)]
 
 ghost use Rattle.std.specs.Prelude.{◌≡◌};
@@ -73,7 +74,8 @@ fn end(sitting: Sitting, catalogue: &mut Catalogue) -> (Sitting, bool) {
     (sitting, false)
 }
 
-// One sitting in whichever state: the proof has to show that it is open before a word of an open sitting.
+// One sitting in whichever state: the proof has to show that it is open before a word of an open
+// sitting.
 fn by_commands(rt: &impl Print) -> io::Result<()> {
     let mut catalogue = Catalogue::new();
     let (sitting, early) = make_table(Sitting::begin(), &mut catalogue);

@@ -1,4 +1,5 @@
-// The catalogue: what is registered under each subject's number, and what stands under each table's.
+// The catalogue: what is registered under each subject's number, and what stands under each
+// table's.
 ghost use Rattle.std.specs.Prelude.{◌≡◌, length};
 ghost use Rattle.register.specs.Rows.{NoOffice, Owned, Few, BlankRest, Standing, RisingNames, Levelled, Low};
 

@@ -1,4 +1,5 @@
-// What a book and a roll stand on: the front of a list that a caller lends, and the check of the list before.
+// What a book and a roll stand on: the front of a list that a caller lends, and the check of the
+// list before.
 #![tactic(auto)]
 
 mod fronts;

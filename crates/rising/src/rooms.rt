@@ -1,4 +1,5 @@
-// The check of a list before a book or a roll is made over it, and the ceiling that it is made with.
+// The check of a list before a book or a roll is made over it, and the ceiling that it is made
+// with.
 ghost use Rattle.std.specs.Prelude.{◌≤◌};
 ghost use Rattle.rights.specs.Checks.{First, fault_of};
 ghost use Rattle.rising.specs.Rooms.{room_checks, Granted};

@@ -49,8 +49,8 @@ impl Reached {
         }
     }
 
-    // The next subject to be followed, in the order in which they were found: with a stack, which goes
-    // to and fro among the pairs, a walk took up to 1.8 times as long.
+    // The next subject to be followed, in the order in which they were found: with a stack, which
+    // goes to and fro among the pairs, a walk took up to 1.8 times as long.
     fn next(&mut self) -> Option<u8>
         ensures marks { self.new.marks ≡ self.old.marks }
         ensures none { IfNone result (drop self.old.next self.old.found.items ≡ []) }

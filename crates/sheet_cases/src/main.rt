@@ -1,4 +1,5 @@
-// Marks the sheets that its arguments name, one after the other, and prints the answers under each name.
+// Marks the sheets that its arguments name, one after the other, and prints the answers under each
+// name.
 #![tactic(auto)]
 
 use marking::mark;

@@ -1,5 +1,5 @@
-// The three states as moved types of plain numbers; the catalogue is lent at each call.
-// What a state lacks cannot be called on it: no question before the opening, no grant after the closing.
+// The three states as moved types of plain numbers; the catalogue is lent at each call. What a
+// state lacks cannot be called on it: no question before the opening, no grant after the closing.
 ghost use Rattle.std.specs.Prelude.{◌≡◌, [], MatchResult};
 ghost use Rattle.register.specs.Catalogue.{subjects_in, tables_in, Enrolled, Tabled};
 ghost use Rattle.rights.specs.Checks.{First, fault_of};

@@ -80,8 +80,8 @@ impl Cells<'_> {
         Ok(())
     }
 
-    // Takes e from the cell at place i, which has its key; an emptied cell goes.
-    // Not one function with `put_into`, which asks for the other bit and the ceiling, and empties none.
+    // Takes e from the cell at place i, which has its key; an emptied cell goes. Not one function
+    // with `put_into`, which asks for the other bit and the ceiling, and empties none.
     pub(crate) fn take_from(&mut self, i: usize, e: Entry) -> Result<(), BookFault>
         requires cell { CellFinding e (cells self.old) (Ok i) }
         requires proper { Proper e }

@@ -49,8 +49,8 @@ impl<'a, T: Copy> Front<'a, T> {
         Some(before)
     }
 
-    /// Puts x at place k, and moves what stands from there on up one place. Where the list is full, or k
-    /// is past the places used, x comes back and nothing changes.
+    /// Puts x at place k, and moves what stands from there on up one place. Where the list is full,
+    /// or k is past the places used, x comes back and nothing changes.
     pub fn insert(&mut self, k: usize, x: T) -> Result<(), T>
         ensures done { IsOk result
             ↔ ((k ≤ length (stored self.old)) × (length (stored self.old) < length (whole self.old))) }
@@ -67,7 +67,8 @@ impl<'a, T: Copy> Front<'a, T> {
         Ok(())
     }
 
-    /// Takes out place k, and moves what stands past it down one place. Past the places used nothing changes.
+    /// Takes out place k, and moves what stands past it down one place. Past the places used
+    /// nothing changes.
     pub fn remove(&mut self, k: usize) -> Option<T>
         ensures gives { result ≡ slice_get (stored self.old) k }
         ensures some { OnSome result (Refilled self.old (remove (stored self.old) k) self.new) }
