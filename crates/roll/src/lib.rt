@@ -6,7 +6,6 @@ mod numbers;
 mod pair_roll;
 mod reach_roll;
 mod reached;
-mod search;
 mod table;
 
 pub use means::{Roll, RollMut};

@@ -14,7 +14,6 @@ use crate::means::{Roll, RollMut};
 use crate::numbers::both_subjects;
 use crate::pair_roll::PairRoll;
 use crate::reached::walk;
-use crate::search::find;
 use rights::{Pair, RollFault};
 use rising::{Front, check_room};
 
@@ -43,10 +42,11 @@ impl<'a> PairRoll<'a> {
         }
     }
 
+    // The place where p stands, or else the place where it would stand.
     fn find(&self, p: Pair) -> Result<usize, usize>
         ensures { MatchResult result (StandsAt (pairs_of self.now) p) (Gap (pairs_of self.now) p) }
     {
-        find(self.front.as_slice(), p)
+        self.front.as_slice().binary_search(&p)
     }
 
     // The place where (m, g) stands.
