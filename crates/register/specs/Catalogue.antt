@@ -39,7 +39,7 @@ pub record Tabled (t : ℕ) (r : Table) (c c' : Catalogue) : Type 0 where
 abbrev pub making_checks : Subjects → Tables → ℕ → ℕ → List ℕ → List (Check RegisterFault)
 making_checks subjects tables i t ds = take 5 (view_checks subjects tables i t ds)
 
--- i is a person who may make a table that names these, which stand, and nothing stands under t
+-- i is a person, these tables stand, and nothing stands under t
 pub record Allowed (i t : ℕ) (ds : List ℕ) (c : Catalogue) : Type 0 where
   pub within : t < 128
   pub free : record_at c t ≡ None

@@ -1,4 +1,5 @@
-// The refusals of each layer. A fault from below stands whole inside that of the layer above.
+// The refusals of each layer. A fault of a book or a roll stands whole inside the register's, and that
+// inside the sheet's; what is refused of a list that is lent is a refusal of the book's or the roll's own.
 ghost use Rattle.std.specs.Prelude.{◌≡◌};
 ghost use Rattle.rights.specs.declared.faults.RegisterFault.TheVariants.{Book, Roll};
 ghost use Rattle.rights.specs.declared.faults.SheetFault.TheVariants.{Register};
@@ -75,6 +76,7 @@ impl BookFault {
     }
 }
 
+// Not one method with a book's: each is the table of its own refusals.
 impl RollFault {
     /// The refusal's number.
     pub fn number(&self) -> u8
@@ -150,8 +152,8 @@ impl SheetFault {
     }
 }
 
-// A fault passes up whole, by `?`. These impls are written out for `from_gives`, which a clause
-// names and which no derive gives.
+// A fault passes up by `?`. These impls are written out for `from_gives`, which a clause names and
+// which no derive gives; a book and a roll each have their own words for a list that is refused.
 impl From<RoomFault> for BookFault {
     ghost from_gives = { λ f r. r ≡ book_fault_of f };
 

@@ -8,8 +8,8 @@ pub enum Subject {
     Group,
 }
 
-/// A table: its owner, its level, and the tables that it names, the first `count` of the list and 0
-/// past them; a base table names none.
+/// A table: its owner, its level, and the tables that it names, the first `count` of the list. A base
+/// table names none. In a catalogue the list holds 0 past them.
 // An array with a count: a record is copied out of the catalogue, which has no heap.
 #[derive(Clone, Copy)]
 pub struct TableRecord {

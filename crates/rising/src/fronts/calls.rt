@@ -1,5 +1,5 @@
 // What the front of a list tells, and how it changes. Each call is total.
-ghost use Rattle.std.specs.Prelude.{◌≡◌, ◌<◌, ◌≤◌, ◌↔◌, [], length, IsOk, IfNone, OnSome, OnOk, OnErr, slice_set};
+ghost use Rattle.std.specs.Prelude.{◌≡◌, ◌<◌, ◌≤◌, ◌↔◌, [], length, IsOk, IfNone, IfErr, OnSome, OnOk, OnErr, slice_set};
 ghost use Rattle.std.specs.List.{slice_get, insert, remove};
 ghost use Rattle.rising.specs.Fronts.{stored, whole, Refilled};
 
@@ -56,6 +56,7 @@ impl<'a, T: Copy> Front<'a, T> {
             ↔ ((k ≤ length (stored self.old)) × (length (stored self.old) < length (whole self.old))) }
         ensures ok { OnOk result (Refilled self.old (insert (stored self.old) k x) self.new) }
         ensures err { OnErr result (self.new ≡ self.old) }
+        ensures back { IfErr result (λ y. y ≡ x) }
     {
         let used = self.used;
         if used == self.list.len() || k > used {
