@@ -1,10 +1,10 @@
 #!/usr/bin/env python3
-"""Lists the places in crates/*/src that an older way of writing leaves, a section a point.
+"""Lists the places in crates/*/src where an older way of writing may stand, a section each.
 
     tools/places.py            prints the counts
     tools/places.py --list     prints every place
 
-It finds candidates by their text; docs/DESIGN-PASS.md says what came of each.
+It finds candidates by their text; docs/DESIGN-PASS.md says what each section is about, and what came of it.
 """
 import difflib
 import glob
@@ -53,7 +53,7 @@ def functions():
         for m in FN.finditer(text):
             indent = m.group(1)
             rest = text[m.end():]
-            end = re.search(r'^' + indent + r'\}', rest, re.M)
+            end = re.search(r'^' + indent + r'\{?\}', rest, re.M)
             stop = re.search(r'^' + indent + r'(?:pub|fn|\}|ghost)', rest[1:], re.M)
             part = rest[:end.end()] if end else rest[:stop.start() if stop else None]
             clauses = clauses_of(part)
@@ -101,13 +101,25 @@ def clauses():
     return [f'{len(v)} times: {k}' for k, v in sorted(by.items(), key=lambda x: -len(x[1])) if len(v) >= 3]
 
 
+def parameters(sig):
+    """The parameters of a signature: what stands in its first round brackets, cut at the outer commas."""
+    parts, depth = [''], 0
+    for c in sig[sig.index('('):]:
+        depth += {'(': 1, '[': 1, '<': 1, ')': -1, ']': -1, '>': -1}.get(c, 0)
+        if depth == 0:
+            break
+        if depth == 1 and c == ',':
+            parts.append('')
+        elif not (depth == 1 and c == '('):
+            parts[-1] += c
+    return [' '.join(p.split()) for p in parts]
+
+
 def together():
     """Parameters that stand together, name and type, in the signatures of three or more functions."""
     by = defaultdict(list)
     for f, n, name, sig, _, _ in functions():
-        inner = re.search(r'\(((?:.|\n)*)\)', sig)
-        ps = [p.strip() for p in re.split(r',(?![^<(\[]*[>)\]])', inner.group(1))] if inner else []
-        ps = sorted(p for p in ps if ':' in p)
+        ps = sorted(p for p in parameters(sig) if ':' in p)
         for pair in itertools.combinations(ps, 2):
             by[pair].append(f'{f}:{n} {name}')
     return [f'{len(v)} times: {", ".join(k)}' for k, v in sorted(by.items(), key=lambda x: -len(x[1])) if len(v) >= 3]

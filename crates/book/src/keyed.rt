@@ -9,6 +9,7 @@ use crate::order::{ROWS, bit_number};
 use rights::{Entry, Right};
 
 /// All entries of one subject, table and grantor.
+// The fields of the key one by one: they are public, and callers make cells of them.
 #[derive(Clone, Copy)]
 pub struct Cell {
     pub subject: u8,

@@ -6,7 +6,7 @@ ghost use Rattle.rights.specs.Entries.{Proper};
 
 use rights::{BookFault, Entry, Kind, Privilege, Rank, Right, Sign, Strength};
 
-// Row k is the right with bit number k. That all thirty-two are stored is a form of this project.
+// Row k is the right with bit number k: the numbers are looked up in the list that the rules print.
 pub(crate) const ROWS: [Right; 32] = [
     Right::Access(Privilege::Select, Sign::Plus, Strength::Weak),
     Right::Access(Privilege::Select, Sign::Plus, Strength::Strong),

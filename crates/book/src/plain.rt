@@ -9,7 +9,8 @@ use rising::Front;
 mod calls;
 
 /// A book of records, one for each entry.
-// What is stored are the entries; there is room for the ceiling.
+// One of two books. What is stored are the entries; there is room for the ceiling, which is the
+// book's and not the front's: that of the cell book counts entries and not places.
 #[derive(Drop)]
 pub struct Plain<'a> {
     front: Front<'a, Entry>,

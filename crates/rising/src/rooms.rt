@@ -25,9 +25,5 @@ pub fn ceiling(places: usize, wanted: usize, limit: usize) -> usize
     ensures room { result ≤ places }
     ensures limit { result ≤ limit }
 {
-    if check_room(places, wanted, limit).is_ok() {
-        wanted
-    } else {
-        0
-    }
+    check_room(places, wanted, limit).map_or(0, |()| wanted)
 }

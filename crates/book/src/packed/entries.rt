@@ -40,7 +40,8 @@ impl Cells<'_> {
         cell.entry_at(k - cell.earlier)
     }
 
-    // Puts e into the cell at place i, which has its key.
+    // Puts e into the cell at place i, which has its key. That e is in range and where its cell is
+    // stay two facts here and below: one value of both would lend the book that is changed.
     pub(crate) fn put_into(&mut self, i: usize, e: Entry) -> Result<(), BookFault>
         requires cell { CellFinding e (cells self.old) (Ok i) }
         requires proper { Proper e }
@@ -81,7 +82,7 @@ impl Cells<'_> {
     }
 
     // Takes e from the cell at place i, which has its key; an emptied cell goes. Not one function
-    // with `put_into`, which asks for the other bit and the ceiling, and empties none.
+    // with `put_into`: that one refuses where this one goes on, asks for the ceiling, and empties none.
     pub(crate) fn take_from(&mut self, i: usize, e: Entry) -> Result<(), BookFault>
         requires cell { CellFinding e (cells self.old) (Ok i) }
         requires proper { Proper e }

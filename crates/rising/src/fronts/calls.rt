@@ -41,6 +41,7 @@ impl<'a, T: Copy> Front<'a, T> {
         ensures some { OnSome result (Refilled self.old (slice_set (stored self.old) k x) self.new) }
         ensures none { IfNone result (self.new ≡ self.old) }
     {
+        // a guard: of `self.get(k)?` the check learns no bound for the write that follows
         if k >= self.used {
             return None;
         }
