@@ -1,15 +1,16 @@
 -- A command is known by its word and its numbers. Assumes nothing.
-use Rattle.std.proofs.Common.{◌≡◌, ℕ, ◌-◌, ◌≤◌, List, ◌++◌, length, take, drop, replicate, Some, sym, refl, ap, ◌∙◌, arith}
+use Rattle.std.proofs.Common.{◌≡◌, ℕ, ◌-◌, ◌<◌, ◌≤◌, List, ◌++◌, length, drop, replicate, Ok, Err, Option, Result, MatchResult, subst, sym, refl, ap, ◌∙◌, arith}
 use mathlib.Core.HLevel.{is_prop→PathP}
 use native.Mathlib.Bridge.{le_prop}
-use Rattle.std.proofs.lemmas.List.{length-take-le, take-append-drop, drop-replicate, take_at, drop_at, length-append, length-replicate}
+use Rattle.std.specs.Result.{result_ok}
+use Rattle.std.proofs.lemmas.List.{length-take-le, take-append-drop, drop_at, length-append, length-replicate}
 use Rattle.rights.specs.declared.commands.Command.{Command}
 use Rattle.rights.specs.declared.commands.Named.{Named}
 use Rattle.rights.specs.Read.{tables_in}
 use Rattle.reader.specs.declared.words.Word.{Word}
 use Rattle.reader.specs.Exactly.{Exactly}
 use Rattle.reader.specs.Spelling.{word, numbers, Padded, PaddedView}
-use Rattle.reader.proofs.Spelled.{exactly_some}
+use Rattle.reader.proofs.Spelled.{exactly_some, exactly_none}
 
 -- the tables of a view are known by those that it names
 named_path : (d e : Named) → d.count ≡ e.count → d.tables ≡ e.tables → d ≡ e
@@ -31,14 +32,23 @@ same_named d e same p q =
 abbrev pub Made : Word → List ℕ → Command → Type 0
 Made w ns c = (word c ≡ w) × (numbers c ≡ ns) × PaddedView c
 
--- the first places of the list hold the tables, and the others 0
-pub named_made : (d : Named) (list : List ℕ) → d.count ≡ length list → d.tables ≡ list ++ drop (length list) (replicate 14 0) → Exactly (Some d) (λ x. (tables_in x ≡ list) × Padded x)
-named_made d list count places =
-    let short = d.few in
-    let filled : drop (length list) (replicate 14 0) ≡ replicate {A = ℕ} (14 - length list) 0 = drop-replicate (length list) 14 0 in
-    let front : tables_in d ≡ list = (λ i. take (count i) (places i)) ∙ take_at list (drop (length list) (replicate 14 0)) (length list) refl in
-    let padded : Padded d = record {
-      whole = ap length places ∙ length-append list _ ∙ omega (arith, ap length filled, length-replicate {A = ℕ} (14 - length list) 0);
-      unused = (λ i. drop (count i) (places i)) ∙ drop_at list (drop (length list) (replicate 14 0)) (length list) refl ∙ filled ∙ ap (λ n. replicate (14 - n) 0) (sym count);
-    } in
-    exactly_some (λ x. (tables_in x ≡ list) × Padded x) d (front, padded) (λ x h. same_named d x (front ∙ sym h.0) padded h.1)
+-- a view's list is read as the one that names it: its first places hold the tables, and the others 0
+module _ (list : List ℕ) where
+  abbrev Names : Named → Type 0
+  Names x = (tables_in x ≡ list) × Padded x
+
+  abbrev Gives : {E : Type 0} → Result Named E → Type 0
+  Gives r = MatchResult r (λ d. (tables_in d ≡ list) × (d.tables ≡ list ++ replicate (14 - length list) 0) × (d.count ≡ length list)) (λ e. 14 < length list)
+
+  given : {E : Type 0} (r : Result Named E) → Gives r → Exactly (result_ok r) Names
+  given (Ok d) h =
+      let short = d.few in
+      let padded : Padded d = record {
+        whole = ap length h.1 ∙ length-append list _ ∙ omega (arith, length-replicate {A = ℕ} (14 - length list) 0, h.2);
+        unused = (λ i. drop (h.2 i) (h.1 i)) ∙ drop_at list (replicate (14 - length list) 0) (length list) refl ∙ ap (λ n. replicate (14 - n) 0) (sym h.2);
+      } in
+      exactly_some Names d (h.0, padded) (λ x g. same_named d x (h.0 ∙ sym g.0) padded g.1)
+  given (Err e) long = exactly_none Names (λ x g. omega (arith, ap length g.0, count_is x g.1, x.few, long))
+
+  pub named_read : {E : Type 0} (r : Result Named E) (o : Option Named) → o ≡ result_ok r → Gives r → Exactly o Names
+  named_read r o e h = subst (λ p. Exactly p Names) (sym e) (given r h)

@@ -10,17 +10,18 @@ use rights::{Answer, RegisterFault};
 /// The shortest buffer that an answer is written to.
 pub const SHORTEST_BUFFER: usize = 32;
 
+// By hand: `impl Display for Answer` proves, but no clause says when a `write!` of it gives `Ok`.
 // Adds the digits of `n`.
-fn push_number(text: &mut ArrayString<32>, n: u32)
-    requires { array_string_len text.old + length (decimal n) ≤ 32 }
+fn push_number(text: &mut ArrayString<SHORTEST_BUFFER>, n: u32)
+    requires { array_string_len text.old + length (decimal n) ≤ SHORTEST_BUFFER }
     ensures { text.new.bytes ≡ text.old.bytes ++ decimal n }
 {
     text.push_str(Buffer::new().format(n));
 }
 
 // Adds some words and then the digits of `n`.
-fn push_both(text: &mut ArrayString<32>, words: &str, n: u32)
-    requires { array_string_len text.old + length words.now + length (decimal n) ≤ 32 }
+fn push_both(text: &mut ArrayString<SHORTEST_BUFFER>, words: &str, n: u32)
+    requires { array_string_len text.old + length words.now + length (decimal n) ≤ SHORTEST_BUFFER }
     ensures { text.new.bytes ≡ text.old.bytes ++ (words.now ++ decimal n) }
 {
     text.push_str(words);
@@ -29,8 +30,8 @@ fn push_both(text: &mut ArrayString<32>, words: &str, n: u32)
 
 // Adds an answer, without line number and end byte.
 #[tactic(auto, using(crate::proofs::Sizes::short, std::proofs::lemmas::Grind::common_steps))]
-fn push_answer(text: &mut ArrayString<32>, answer: &Answer)
-    requires { array_string_len text.old + 13 ≤ 32 }
+fn push_answer(text: &mut ArrayString<SHORTEST_BUFFER>, answer: &Answer)
+    requires { array_string_len text.old + 13 ≤ SHORTEST_BUFFER }
     ensures text { text.new.bytes ≡ text.old.bytes ++ answer_text answer.now }
     ensures short { length (answer_text answer.now) ≤ 13 }
 {
@@ -48,7 +49,7 @@ fn push_answer(text: &mut ArrayString<32>, answer: &Answer)
 
 // The answer to a line, as it is printed.
 #[tactic(auto, using(crate::proofs::Sizes::short, std::proofs::lemmas::Grind::common_steps), unfolding(crate::specs::Answers::answer_line))]
-fn printed(line: u32, answer: &Answer) -> ArrayString<32>
+fn printed(line: u32, answer: &Answer) -> ArrayString<SHORTEST_BUFFER>
     ensures text { result.bytes ≡ answer_line line answer.now }
     ensures short { length (answer_line line answer.now) ≤ 25 }
 {

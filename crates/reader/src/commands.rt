@@ -9,20 +9,12 @@ use crate::shapes::Line;
 use crate::words::Word;
 use rights::{Command, Named};
 
-// The tables of a view, if they are not too many.
-pub(crate) fn named(list: &[u16]) -> Option<Named>
+// The tables of a view, if they are not too many. Not in `command_of` itself: with the conversion
+// there the search gives up at the arms of six numbers.
+fn named(list: &[u16]) -> Option<Named>
     ensures { Exactly result (λ d. (tables_in d ≡ list.now) × Padded d) }
 {
-    if list.len() > 14 {
-        return None;
-    }
-    // An array with a count, since a command is `Copy` and nothing here is on the heap.
-    let mut tables = [0; 14];
-    tables[0..list.len()].copy_from_slice(list);
-    Some(Named {
-        count: list.len(),
-        tables,
-    })
+    Named::try_from(list).ok()
 }
 
 // The command of a word and its numbers, if the word takes that many.

@@ -1,9 +1,5 @@
-use Rattle.std.proofs.Common.{◌≡◌, ◌-◌, ◌++◌, length, drop, replicate, refl, arith}
-use Rattle.reader.proofs.Made.{named_made}
+use Rattle.reader.proofs.Made.{named_read}
 use Rattle.reader.proofs.commands.named.Goals as goal
 
 pub returns : goal.returns
-returns c =
-    let list = c.args.list.now in
-    let all : length list - 0 ≡ length list = omega arith in
-    named_made _ list refl (λ i. c.copy_from_slice.ensures.after i ++ drop (all i) (replicate 14 0))
+returns c = named_read c.args.list.now c.try_from.result c.ok.result c.ok.ensures.value c.try_from.ensures
