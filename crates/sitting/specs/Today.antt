@@ -1,6 +1,6 @@
 -- What a sitting answers to a command with the words that run today.
--- runs: these words. Answered: the answer and what comes of it, by the rules, or an unknown word.
-use Rattle.std.specs.Prelude.{◌≡◌, ℕ, Bool, true, false, [], Ok, Err, MatchBool, Result}
+-- runs: these words. untaken: what a state refuses any other word for. Answered: the answer and what comes of it, by the rules, or an unknown word.
+use Rattle.std.specs.Prelude.{◌≡◌, ℕ, Bool, true, false, cond, [], Ok, Err, MatchBool, Result}
 use Rattle.register.specs.declared.catalogue.Catalogue.{Catalogue}
 use Rattle.register.specs.Catalogue.{subjects_in, tables_in}
 use Rattle.rights.specs.declared.commands.Answer.{Answer}
@@ -30,6 +30,10 @@ runs (Command.Ungive i s p sign t strength) = false
 runs (Command.Lend i s p t kind rank) = false
 runs (Command.Unlend i s p t kind rank) = false
 runs (Command.May u p t) = false
+
+-- what a state refuses a word for that is none of its own
+abbrev pub untaken : Command → SheetFault
+untaken c = cond (runs c) SheetFault.OutOfTurn SheetFault.Unreadable
 
 abbrev pub state_of : Sitting → State
 state_of (Sitting.SettingUp s) = State.SettingUp
