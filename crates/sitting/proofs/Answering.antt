@@ -12,6 +12,7 @@ use Rattle.rights.specs.declared.faults.RegisterFault.{RegisterFault}
 use Rattle.rights.specs.declared.faults.SheetFault.{SheetFault}
 use Rattle.rights.specs.declared.records.Subject.{Subject}
 use Rattle.rights.specs.Checks.{First, fault_of}
+use Rattle.rights.specs.Faults.{answer_of}
 use Rattle.rights.specs.History.{History, Becomes, with_subjects, with_tables}
 use Rattle.rights.specs.Read.{mark_of, tables_in as listed}
 use Rattle.rights.specs.Refusals.{Lent, Takes, checks, user_checks, group_checks, open_checks, base_checks, view_checks}
@@ -20,7 +21,7 @@ use Rattle.rights.specs.Subjects.{enrolled}
 use Rattle.rights.specs.Tables.{Table, made}
 use Rattle.rights.proofs.Checks.{first_none}
 use Rattle.rights.proofs.Steps.{out_of_turn, refused_step, accepted_step}
-use Rattle.sitting.specs.Today.{runs, untaken, history_of, answer_of, Unknown, Answered}
+use Rattle.sitting.specs.Today.{runs, untaken, history_of, Unknown, Answered}
 
 -- what the sheet makes of the register's answer
 abbrev pub passed_up : Result (Unit {0}) RegisterFault → Result (Unit {0}) SheetFault

@@ -1,8 +1,9 @@
 // A sitting in whichever state it is, and the call that carries out one command.
 ghost use Rattle.std.specs.Prelude.{◌≡◌, ◌≢◌};
+ghost use Rattle.rights.specs.Faults.{answer_of};
 ghost use Rattle.sitting.specs.Counts.{Counted};
 ghost use Rattle.sitting.specs.States.{setting_up_carried, open_carried};
-ghost use Rattle.sitting.specs.Today.{state_of, carried_in, history_of, answer_of, untaken, Answered, Tallied};
+ghost use Rattle.sitting.specs.Today.{state_of, carried_in, history_of, untaken, Answered, Tallied};
 
 use crate::states::{Closed, Open, SettingUp};
 use register::Catalogue;
@@ -68,12 +69,6 @@ fn not_taken(command: &Command) -> SheetFault
     }
 }
 
-fn answer_to(done: Result<(), SheetFault>) -> Answer
-    ensures { result ≡ answer_of done }
-{
-    done.map_or_else(Answer::Refused, |_| Answer::Done)
-}
-
 // A command to a sitting that is being set up.
 fn prepare(mut sitting: SettingUp, catalogue: &mut Catalogue, command: Command) -> (Sitting, Answer)
     ensures answer { Answered State.SettingUp (history_of catalogue.old) command
@@ -90,7 +85,7 @@ fn prepare(mut sitting: SettingUp, catalogue: &mut Catalogue, command: Command) 
         },
         word => {
             let done = enrol(&mut sitting, catalogue, word);
-            (Sitting::SettingUp(sitting), answer_to(done))
+            (Sitting::SettingUp(sitting), Answer::from(done))
         }
     }
 }
@@ -125,7 +120,7 @@ fn work(mut sitting: Open, catalogue: &mut Catalogue, command: Command) -> (Sitt
         Command::Close => (Sitting::Closed(sitting.close()), Answer::Done),
         word => {
             let done = make(&mut sitting, catalogue, word);
-            (Sitting::Open(sitting), answer_to(done))
+            (Sitting::Open(sitting), Answer::from(done))
         }
     }
 }
