@@ -65,9 +65,10 @@ fn make_table(sitting: Sitting, catalogue: &mut Catalogue) -> (Sitting, bool) {
     }
 }
 
-// Closes the sitting where it is open.
+// Closes the sitting where it is open. Not one function with `make_table`: each shows another slip
+// of a host, a word before the opening and one after the closing, and each has its edit.
 fn end(sitting: Sitting, catalogue: &mut Catalogue) -> (Sitting, bool) {
-    if matches!(sitting.state(), State::Open) {
+    if sitting.state() == State::Open {
         let (sitting, answer) = hand_in(sitting, catalogue, Command::Close);
         return (sitting, answer == Answer::Done);
     }

@@ -1,7 +1,6 @@
 -- The levels that are written down are the levels of the rules, and the tests of names are the rules' conditions.
 -- Assumes nothing.
-use Rattle.std.proofs.Common.{◌≡◌, ℕ, zero, suc, ◌<◌, ◌≤◌, true, ltb, List, [], ◌∷◌, get_or, is_some, IfSome, Some, None, Option, sym, refl, ap, ◌∙◌, subst, inr, arith}
-use Rattle.std.specs.Prelude.{◌↔◌, IsTrue}
+use Rattle.std.proofs.Common.{◌≡◌, ℕ, zero, suc, ◌<◌, ◌≤◌, true, ltb, List, [], ◌∷◌, length, get_or, is_some, IfSome, Some, None, Option, sym, refl, ap, ◌∙◌, subst, inr, arith}
 use Rattle.std.specs.Option.{option_map}
 use Rattle.std.specs.List.{AllByRecursion}
 use Rattle.std.proofs.lemmas.List.Elements.{All-weaker, All-from_recursion, recursion_from_All}
@@ -9,7 +8,7 @@ use Rattle.std.proofs.lemmas.Bool.{and_parts, and_from, ltb-true, lt-ltb}
 use Rattle.rights.specs.declared.records.Subject.{Subject}
 use Rattle.rights.specs.declared.records.TableRecord.{TableRecord}
 use Rattle.rights.specs.Lists.{Rising}
-use Rattle.rights.specs.Refusals.{NoMark}
+use Rattle.rights.specs.Refusals.{NoMark, WellMade}
 use Rattle.rights.specs.Tables.{Table, Stands, Level, LevelOver}
 use Rattle.rights.proofs.Checks.{none_some}
 use Rattle.register.specs.Rows.{subjects_of, is_person, tables_of, table_of, names_of, level_at, level_over, stand, rise}
@@ -52,7 +51,7 @@ module _ (ss : List (Option Subject)) (ts : List (Option TableRecord)) (s : Soun
   pub level_is : (t : ℕ) (r : TableRecord) → get_or ts t None ≡ Some r → Level (tables_of ts) t r.level
   level_is t r e = levels (suc r.level) t r e (omega arith)
 
-  pub level_over_is : (ds : List ℕ) → stand ts ds ≡ true → LevelOver (tables_of ts) ds (level_over ts ds)
+  level_over_is : (ds : List ℕ) → stand ts ds ≡ true → LevelOver (tables_of ts) ds (level_over ts ds)
   level_over_is ds e = over (level_over ts ds) (levels (level_over ts ds)) ds e (omega arith)
 
   mutual
@@ -61,7 +60,7 @@ module _ (ss : List (Option Subject)) (ts : List (Option TableRecord)) (s : Soun
         let found = record_of ts t r e in
         over_only over ∙ ap (λ (x : Table). level_over ts x.names) found.2 ∙ sym (s.levelled t found.0 found.1) ∙ sym (ap level_at found.1)
 
-    pub over_only : {ds : List ℕ} {n : ℕ} → LevelOver (tables_of ts) ds n → n ≡ level_over ts ds
+    over_only : {ds : List ℕ} {n : ℕ} → LevelOver (tables_of ts) ds n → n ≡ level_over ts ds
     over_only LevelOver.over_none = refl
     over_only (LevelOver.over_more one rest) = omega (arith, level_only one, over_only rest)
 
@@ -85,8 +84,15 @@ rise_from [] h = refl
 rise_from (d ∷ []) h = refl
 rise_from (d ∷ x ∷ ds) h = and_from _ _ (lt-ltb d x h.0.0) (rise_from (x ∷ ds) h.1)
 
-pub rise_decides : (ds : List ℕ) → IsTrue (rise ds) ↔ Rising ◌<◌ ds
-rise_decides ds = (rising_from ds, rise_from ds)
+-- what the code asks of a view's names, which all stand, is what the rules ask
+module _ (ss : List (Option Subject)) (ts : List (Option TableRecord)) (s : Sound ss ts) (ds : List ℕ) where
+  pub made_from : AllByRecursion (Stands (tables_of ts)) ds → 1 ≤ length ds → length ds ≤ 8 → rise ds ≡ true → level_over ts ds ≤ 7 → WellMade (tables_of ts) ds
+  unfolding WellMade
+  made_from standing some few rises low = (some, few, rising_from ds rises, (level_over ts ds, level_over_is ss ts s ds (stand_from ts ds standing), low))
+
+  pub made_parts : WellMade (tables_of ts) ds → (1 ≤ length ds) × (length ds ≤ 8) × (rise ds ≡ true) × (level_over ts ds ≤ 7)
+  unfolding WellMade
+  made_parts made = (made.0, made.1, rise_from ds made.2, omega (arith, over_only ss ts s made.3.1, made.3.2))
 
 -- where nothing stands, the row is empty
 pub free_from : (ts : List (Option TableRecord)) (t : ℕ) → (Stands (tables_of ts) t → ⊥) → get_or ts t None ≡ None

@@ -1,12 +1,18 @@
 -- The tests of lists that the code makes, as the recursions and the words that the contracts cite. Assumes nothing.
-use Rattle.std.proofs.Common.{◌≡◌, ℕ, zero, suc, ◌+◌, ◌<◌, ltb, Bool, true, false, List, [], ◌∷◌, length, get_or, sym, refl, arith, add-one}
+use Rattle.std.proofs.Common.{◌≡◌, ℕ, zero, suc, ◌+◌, ◌<◌, ltb, Bool, true, false, List, [], ◌∷◌, length, get_or, is_some, sym, refl, arith, add-one}
 use Rattle.std.specs.Prelude.{◌↔◌, IsTrue, MatchBool}
+use Rattle.std.specs.Bool.{then_some}
 use Rattle.std.specs.List.{AllByRecursion, AllWithin, AllAdjacentBelow, HoldsAt, IsAllAdjacentAnswer}
 use Rattle.std.proofs.lemmas.Bool.{and_from, and_left, and_right}
 use Rattle.std.proofs.lemmas.Bool.Decides.{when_true}
 use Rattle.std.proofs.lemmas.Iterator.Search.{true_from_All}
 use Rattle.std.proofs.lemmas.List.Elements.{All-from_recursion, recursion_from_All, All-from_all_within}
 use Rattle.register.specs.Rows.{rise}
+
+-- `then_some` gives something exactly where its condition is true
+pub some_when : (b : Bool) (x : ℕ) → is_some (then_some b x) ≡ b
+some_when true x = refl
+some_when false x = refl
 
 -- an `all` whose test decides P
 pub each_decided : (P : ℕ → Type 0) (xs : List ℕ) (r : Bool) → MatchBool r (AllWithin P xs 0 (length xs)) ((k : ℕ) × (k < length xs) × HoldsAt (λ x. P x → ⊥) xs k) → IsTrue r ↔ AllByRecursion P xs

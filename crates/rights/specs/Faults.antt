@@ -1,5 +1,7 @@
--- The number and the layer of each refusal, and what a refused list is to a book and to a roll.
-use Rattle.std.specs.Prelude.{ℕ}
+-- The number and the layer of each refusal, what a refused list is to a book and to a roll, and the answer to a
+-- word that was carried out or refused.
+use Rattle.std.specs.Prelude.{ℕ, Ok, Err, Result}
+use Rattle.rights.specs.declared.commands.Answer.{Answer}
 use Rattle.rights.specs.declared.faults.BookFault.{BookFault}
 use Rattle.rights.specs.declared.faults.RollFault.{RollFault}
 use Rattle.rights.specs.declared.faults.RegisterFault.{RegisterFault}
@@ -73,3 +75,8 @@ abbrev pub layer : SheetFault → ℕ
 layer SheetFault.Unreadable = 1
 layer SheetFault.OutOfTurn = 1
 layer (SheetFault.Register f) = register_layer f
+
+-- the answer to a word that was carried out, or refused
+abbrev pub answer_of : Result (Unit {0}) SheetFault → Answer
+answer_of (Ok x) = Answer.Done
+answer_of (Err f) = Answer.Refused f

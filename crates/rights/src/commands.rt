@@ -1,5 +1,6 @@
 // The commands of a sitting with their numbers as they came, and the answers.
 ghost use Rattle.std.specs.Prelude.{◌≡◌, ◌≤◌};
+ghost use Rattle.rights.specs.Faults.{answer_of};
 ghost use Rattle.rights.specs.Numbers.{ground_number};
 
 use crate::faults::SheetFault;
@@ -119,6 +120,15 @@ pub enum Answer {
     Yes(Ground),
     No(Ground),
     Refused(SheetFault),
+}
+
+// What comes of a word that is carried out or refused; by hand for `from_gives`, as for a ground.
+impl From<Result<(), SheetFault>> for Answer {
+    ghost from_gives = { λ done a. a ≡ answer_of done };
+
+    fn from(done: Result<(), SheetFault>) -> Answer {
+        done.map_or_else(Answer::Refused, |_| Answer::Done)
+    }
 }
 
 /// The states of a sitting.

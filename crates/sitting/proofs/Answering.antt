@@ -1,5 +1,6 @@
 -- From what a call of a state promises to the answer of the rules. Assumes nothing.
-use Rattle.std.proofs.Common.{◌≡◌, ℕ, true, [], Some, None, Ok, Err, Result, sym, refl, ap, subst, MatchResult}
+use Rattle.std.proofs.Common.{◌≡◌, ℕ, Bool, true, false, [], Some, None, Ok, Err, Result, sym, refl, ap, subst, MatchResult}
+use Rattle.std.specs.Prelude.{cond, MatchBool}
 use Rattle.std.proofs.lemmas.Bool.{false≢true}
 use Rattle.register.specs.declared.catalogue.Catalogue.{Catalogue}
 use Rattle.register.specs.Catalogue.{subjects_in, tables_in, Enrolled, Tabled}
@@ -11,6 +12,7 @@ use Rattle.rights.specs.declared.faults.RegisterFault.{RegisterFault}
 use Rattle.rights.specs.declared.faults.SheetFault.{SheetFault}
 use Rattle.rights.specs.declared.records.Subject.{Subject}
 use Rattle.rights.specs.Checks.{First, fault_of}
+use Rattle.rights.specs.Faults.{answer_of}
 use Rattle.rights.specs.History.{History, Becomes, with_subjects, with_tables}
 use Rattle.rights.specs.Read.{mark_of, tables_in as listed}
 use Rattle.rights.specs.Refusals.{Lent, Takes, checks, user_checks, group_checks, open_checks, base_checks, view_checks}
@@ -19,7 +21,7 @@ use Rattle.rights.specs.Subjects.{enrolled}
 use Rattle.rights.specs.Tables.{Table, made}
 use Rattle.rights.proofs.Checks.{first_none}
 use Rattle.rights.proofs.Steps.{out_of_turn, refused_step, accepted_step}
-use Rattle.sitting.specs.Today.{runs, history_of, answer_of, Answered}
+use Rattle.sitting.specs.Today.{runs, untaken, history_of, Unknown, Answered}
 
 -- what the sheet makes of the register's answer
 abbrev pub passed_up : Result (Unit {0}) RegisterFault → Result (Unit {0}) SheetFault
@@ -106,12 +108,16 @@ pub answered : (state state' : State) (h h' : History) (c k : Command) (a' a : A
 answered state state' h h' c k a' a is same e step =
     subst (λ (word : Command). Answered state h word a' state' h') (sym is) (subst (λ (b : Answer). Answered state h k b state' h') (sym same) (by_rules state h k a state' h' e step))
 
-late : (state : State) (h : History) (c : Command) → runs c ≡ true → (Takes state c → ⊥) → Answered state h c (Answer.Refused SheetFault.OutOfTurn) state h
-late state h c e not = by_rules state h c _ state h e (λ lent. out_of_turn lent state h c not)
+-- a word that is none of the state's own is out of turn, or does not run
+late : (state : State) (h : History) (c : Command) → (runs c ≡ true → Takes state c → ⊥) → Answered state h c (Answer.Refused (untaken c)) state h
+late state h c not = go (runs c) refl
+  where
+    go : (b : Bool) → runs c ≡ b → MatchBool b ((lent : Lent) → Step lent state h c [] (Answer.Refused (cond b SheetFault.OutOfTurn SheetFault.Unreadable)) state h) (Unknown state h (Answer.Refused (cond b SheetFault.OutOfTurn SheetFault.Unreadable)) state h)
+    go true e = λ lent. out_of_turn lent state h c (not e)
+    go false e = record { answer = refl; stays = refl; same = refl }
 
--- what is not among the words of a state is out of turn there
-pub late_set_up : (h : History) (c : Command) → runs c ≡ true → ((n k : ℕ) → c ≡ Command.User n k → ⊥) → ((n : ℕ) → c ≡ Command.Group n → ⊥) → (c ≡ Command.Open → ⊥) → Answered State.SettingUp h c (Answer.Refused SheetFault.OutOfTurn) State.SettingUp h
-late_set_up h c e u g o = late State.SettingUp h c e (not c (known c e) u g o)
+pub late_set_up : (h : History) (c : Command) → ((n k : ℕ) → c ≡ Command.User n k → ⊥) → ((n : ℕ) → c ≡ Command.Group n → ⊥) → (c ≡ Command.Open → ⊥) → Answered State.SettingUp h c (Answer.Refused (untaken c)) State.SettingUp h
+late_set_up h c u g o = late State.SettingUp h c (λ e. not c (known c e) u g o)
   where
     not : (c : Command) → Known c → ((n k : ℕ) → c ≡ Command.User n k → ⊥) → ((n : ℕ) → c ≡ Command.Group n → ⊥) → (c ≡ Command.Open → ⊥) → Takes State.SettingUp c → ⊥
     not c Known.user no_user no_group no_open = λ _. no_user _ _ refl
@@ -121,8 +127,8 @@ late_set_up h c e u g o = late State.SettingUp h c e (not c (known c e) u g o)
     not c Known.base no_user no_group no_open = λ never. never
     not c Known.view no_user no_group no_open = λ never. never
 
-pub late_open : (h : History) (c : Command) → runs c ≡ true → ((i t : ℕ) → c ≡ Command.Base i t → ⊥) → ((i t : ℕ) (d : Named) → c ≡ Command.View i t d → ⊥) → (c ≡ Command.Close → ⊥) → Answered State.Open h c (Answer.Refused SheetFault.OutOfTurn) State.Open h
-late_open h c e b v o = late State.Open h c e (not c (known c e) b v o)
+pub late_open : (h : History) (c : Command) → ((i t : ℕ) → c ≡ Command.Base i t → ⊥) → ((i t : ℕ) (d : Named) → c ≡ Command.View i t d → ⊥) → (c ≡ Command.Close → ⊥) → Answered State.Open h c (Answer.Refused (untaken c)) State.Open h
+late_open h c b v o = late State.Open h c (λ e. not c (known c e) b v o)
   where
     not : (c : Command) → Known c → ((i t : ℕ) → c ≡ Command.Base i t → ⊥) → ((i t : ℕ) (d : Named) → c ≡ Command.View i t d → ⊥) → (c ≡ Command.Close → ⊥) → Takes State.Open c → ⊥
     not c Known.user no_base no_view no_close = λ never. never
@@ -132,8 +138,8 @@ late_open h c e b v o = late State.Open h c e (not c (known c e) b v o)
     not c Known.base no_base no_view no_close = λ _. no_base _ _ refl
     not c Known.view no_base no_view no_close = λ _. no_view _ _ _ refl
 
-pub late_closed : (state : State) (h : History) (c : Command) → state ≡ State.Closed → runs c ≡ true → Answered state h c (Answer.Refused SheetFault.OutOfTurn) State.Closed h
-late_closed state h c is e = subst (λ (s : State). Answered s h c (Answer.Refused SheetFault.OutOfTurn) State.Closed h) (sym is) (late State.Closed h c e (not c (known c e)))
+pub late_closed : (state : State) (h : History) (c : Command) → state ≡ State.Closed → Answered state h c (Answer.Refused (untaken c)) State.Closed h
+late_closed state h c is = subst (λ (s : State). Answered s h c (Answer.Refused (untaken c)) State.Closed h) (sym is) (late State.Closed h c (λ e. not c (known c e)))
   where
     not : (c : Command) → Known c → Takes State.Closed c → ⊥
     not c Known.user = λ never. never

@@ -1,6 +1,6 @@
 -- What a sitting answers to a command with the words that run today.
--- runs: these words. Answered: the answer and what comes of it, by the rules, or an unknown word.
-use Rattle.std.specs.Prelude.{◌≡◌, ℕ, Bool, true, false, [], Ok, Err, MatchBool, Result}
+-- runs: these words. untaken: what a state refuses any other word for. Answered: the answer and what comes of it, by the rules, or an unknown word.
+use Rattle.std.specs.Prelude.{◌≡◌, ℕ, Bool, true, false, cond, [], MatchBool}
 use Rattle.register.specs.declared.catalogue.Catalogue.{Catalogue}
 use Rattle.register.specs.Catalogue.{subjects_in, tables_in}
 use Rattle.rights.specs.declared.commands.Answer.{Answer}
@@ -31,6 +31,10 @@ runs (Command.Lend i s p t kind rank) = false
 runs (Command.Unlend i s p t kind rank) = false
 runs (Command.May u p t) = false
 
+-- what a state refuses a word for that is none of its own
+abbrev pub untaken : Command → SheetFault
+untaken c = cond (runs c) SheetFault.OutOfTurn SheetFault.Unreadable
+
 abbrev pub state_of : Sitting → State
 state_of (Sitting.SettingUp s) = State.SettingUp
 state_of (Sitting.Open s) = State.Open
@@ -45,11 +49,6 @@ carried_in (Sitting.Closed s) = closed_carried s
 -- the history that a catalogue stands for: no pair and no entry can be made yet
 abbrev pub history_of : Catalogue → History
 history_of c = record { subjects = subjects_in c; pairs = []; tables = tables_in c; entries = [] }
-
--- the answer to a command that was carried out, or refused
-abbrev pub answer_of : Result (Unit {0}) SheetFault → Answer
-answer_of (Ok x) = Answer.Done
-answer_of (Err f) = Answer.Refused f
 
 -- an unknown word changes nothing
 pub record Unknown (state : State) (h : History) (a : Answer) (state' : State) (h' : History) : Type 0 where

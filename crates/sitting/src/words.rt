@@ -1,8 +1,9 @@
 // A sitting in whichever state it is, and the call that carries out one command.
-ghost use Rattle.std.specs.Prelude.{◌≡◌, ◌≢◌, true};
+ghost use Rattle.std.specs.Prelude.{◌≡◌, ◌≢◌};
+ghost use Rattle.rights.specs.Faults.{answer_of};
 ghost use Rattle.sitting.specs.Counts.{Counted};
 ghost use Rattle.sitting.specs.States.{setting_up_carried, open_carried};
-ghost use Rattle.sitting.specs.Today.{runs, state_of, carried_in, history_of, answer_of, Answered, Tallied};
+ghost use Rattle.sitting.specs.Today.{state_of, carried_in, history_of, untaken, Answered, Tallied};
 
 use crate::states::{Closed, Open, SettingUp};
 use register::Catalogue;
@@ -42,44 +43,34 @@ impl Sitting {
             result.1 (state_of result.0) (history_of catalogue.new) }
         ensures count { Tallied result.1 (carried_in self) (carried_in result.0) }
     {
-        if !is_known(&command) {
-            return (self, Answer::Refused(SheetFault::Unreadable));
-        }
         match self {
             Sitting::SettingUp(sitting) => prepare(sitting, catalogue, command),
             Sitting::Open(sitting) => work(sitting, catalogue, command),
             Sitting::Closed(sitting) => (
                 Sitting::Closed(sitting),
-                Answer::Refused(SheetFault::OutOfTurn),
+                Answer::Refused(not_taken(&command)),
             ),
         }
     }
 }
 
-// The words that run today.
-fn is_known(command: &Command) -> bool
-    ensures { result ≡ runs command.now }
+// What a state refuses a word for that is none of its own: it is out of turn, or does not run today.
+fn not_taken(command: &Command) -> SheetFault
+    ensures { result ≡ untaken command.now }
 {
-    matches!(
-        command,
+    match command {
         Command::User { .. }
-            | Command::Group { .. }
-            | Command::Open
-            | Command::Close
-            | Command::Base { .. }
-            | Command::View { .. }
-    )
-}
-
-fn answer_to(done: Result<(), SheetFault>) -> Answer
-    ensures { result ≡ answer_of done }
-{
-    done.map_or_else(Answer::Refused, |_| Answer::Done)
+        | Command::Group { .. }
+        | Command::Open
+        | Command::Close
+        | Command::Base { .. }
+        | Command::View { .. } => SheetFault::OutOfTurn,
+        _ => SheetFault::Unreadable,
+    }
 }
 
 // A command to a sitting that is being set up.
 fn prepare(mut sitting: SettingUp, catalogue: &mut Catalogue, command: Command) -> (Sitting, Answer)
-    requires { runs command ≡ true }
     ensures answer { Answered State.SettingUp (history_of catalogue.old) command
         result.1 (state_of result.0) (history_of catalogue.new) }
     ensures count { Tallied result.1 (setting_up_carried sitting) (carried_in result.0) }
@@ -94,7 +85,7 @@ fn prepare(mut sitting: SettingUp, catalogue: &mut Catalogue, command: Command) 
         },
         word => {
             let done = enrol(&mut sitting, catalogue, word);
-            (Sitting::SettingUp(sitting), answer_to(done))
+            (Sitting::SettingUp(sitting), Answer::from(done))
         }
     }
 }
@@ -105,22 +96,22 @@ fn enrol(
     catalogue: &mut Catalogue,
     command: Command,
 ) -> Result<(), SheetFault>
-    requires known { runs command ≡ true }
-    requires stays { command ≢ Command.Open }
+    requires { command ≢ Command.Open }
     ensures answer { Answered State.SettingUp (history_of catalogue.old) command
         (answer_of result) State.SettingUp (history_of catalogue.new) }
-    ensures count { Counted result (setting_up_carried sitting.old) (setting_up_carried sitting.new) }
+    ensures count { Counted result
+        (setting_up_carried sitting.old)
+        (setting_up_carried sitting.new) }
 {
     match command {
         Command::User { n, c } => Ok(sitting.user(catalogue, n, c)?),
         Command::Group { n } => Ok(sitting.group(catalogue, n)?),
-        _ => Err(SheetFault::OutOfTurn),
+        word => Err(not_taken(&word)),
     }
 }
 
 // A command to an open sitting.
 fn work(mut sitting: Open, catalogue: &mut Catalogue, command: Command) -> (Sitting, Answer)
-    requires { runs command ≡ true }
     ensures answer { Answered State.Open (history_of catalogue.old) command
         result.1 (state_of result.0) (history_of catalogue.new) }
     ensures count { Tallied result.1 (open_carried sitting) (carried_in result.0) }
@@ -129,16 +120,15 @@ fn work(mut sitting: Open, catalogue: &mut Catalogue, command: Command) -> (Sitt
         Command::Close => (Sitting::Closed(sitting.close()), Answer::Done),
         word => {
             let done = make(&mut sitting, catalogue, word);
-            (Sitting::Open(sitting), answer_to(done))
+            (Sitting::Open(sitting), Answer::from(done))
         }
     }
 }
 
 // A command that leaves the sitting open. The register's fault passes up whole.
-// No twin of `enrol`: the states are two types, and each has words of its own.
+// Not one function with `enrol`: the states are two types, and each has words of its own.
 fn make(sitting: &mut Open, catalogue: &mut Catalogue, command: Command) -> Result<(), SheetFault>
-    requires known { runs command ≡ true }
-    requires stays { command ≢ Command.Close }
+    requires { command ≢ Command.Close }
     ensures answer { Answered State.Open (history_of catalogue.old) command
         (answer_of result) State.Open (history_of catalogue.new) }
     ensures count { Counted result (open_carried sitting.old) (open_carried sitting.new) }
@@ -146,6 +136,6 @@ fn make(sitting: &mut Open, catalogue: &mut Catalogue, command: Command) -> Resu
     match command {
         Command::Base { i, t } => Ok(sitting.base(catalogue, i, t)?),
         Command::View { i, t, d } => Ok(sitting.view(catalogue, i, t, d.listed())?),
-        _ => Err(SheetFault::OutOfTurn),
+        word => Err(not_taken(&word)),
     }
 }

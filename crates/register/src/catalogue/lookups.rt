@@ -14,7 +14,7 @@ impl Catalogue {
     pub fn subject(&self, number: u16) -> Option<Subject>
         ensures { result ≡ subjects_in self.now number }
     {
-        entry_at(&self.subjects, number)
+        row(&self.subjects, number)
     }
 
     /// What stands under `number`.
@@ -25,7 +25,7 @@ impl Catalogue {
         ensures few { IfSome result (λ x. x.count ≤ 8) }
         ensures blank { IfSome result (λ x. BlankPast x) }
     {
-        entry_at(&self.tables, number)
+        row(&self.tables, number)
     }
 
     /// Whether `number` is a person.
@@ -39,7 +39,7 @@ impl Catalogue {
     pub fn is_creator(&self, number: u16) -> bool
         ensures { IsTrue result ↔ IsCreator (subjects_in self.now) number }
     {
-        // no twin of `is_person`: one value, where that is a pattern of two
+        // not one function with `is_person`: what they have in common is the look-up
         self.subject(number) == Some(Subject::Person { creator: true })
     }
 
@@ -60,8 +60,8 @@ impl Catalogue {
     }
 }
 
-// What stands in row n of a table.
-fn entry_at<T: Copy>(rows: &[Option<T>], n: u16) -> Option<T>
+// Row n, which holds what is under that number; nothing past the last.
+fn row<T: Copy>(rows: &[Option<T>], n: u16) -> Option<T>
     ensures { result ≡ slice_index_or rows.now n None }
 {
     rows.get(usize::from(n)).copied().flatten()

@@ -1,5 +1,5 @@
 // Making base tables and views. Issuer and table stay plain numbers, as a command carries them.
-ghost use Rattle.std.specs.Prelude.{◌≡◌, ◌≤◌, ◌↔◌, true, [], length, IsTrue, IfOk, OnOk, MatchResult};
+ghost use Rattle.std.specs.Prelude.{◌≡◌, ◌≤◌, ◌↔◌, true, [], length, IsTrue, IsSome, IfSome, IfOk, OnOk, MatchResult};
 ghost use Rattle.std.specs.List.{AllByRecursion};
 ghost use Rattle.register.specs.Catalogue.{subjects_in, tables_in, record_at, making_checks, Allowed, Fitting, Tabled};
 ghost use Rattle.register.specs.Rows.{table_of, names_of, level_at, level_over, rise, BlankPast};
@@ -38,10 +38,7 @@ impl Catalogue {
             (λ _. self.new ≡ self.old) }
     {
         let owner = self.may_make(issuer, table, names)?;
-        if !self.well_made(names) {
-            return Err(RegisterFault::MakeUp);
-        }
-        let level = self.level_over(names);
+        let level = self.view_level(names).ok_or(RegisterFault::MakeUp)?;
         self.add(table, record_of(owner, level, names));
         Ok(())
     }
@@ -94,22 +91,21 @@ impl Catalogue {
         names.iter().all(|d| self.stands(*d))
     }
 
-    // Whether a view may name these tables, which all stand.
+    // The level of a view on these tables, which all stand; none where they make no view.
     #[tactic(auto, unfolding(rights::specs::Refusals::WellMade))]
-    fn well_made(&self, names: &[u16]) -> bool
+    fn view_level(&self, names: &[u16]) -> Option<u8>
         requires { AllByRecursion (Stands (tables_in self.now)) names.now }
-        ensures { IsTrue result ↔ WellMade (tables_in self.now) names.now }
+        ensures made { IsSome result ↔ WellMade (tables_in self.now) names.now }
+        ensures value { IfSome result (λ x. x ≡ level_over self.now.tables names.now) }
     {
-        if names.is_empty() || names.len() > 8 {
-            return false;
+        if names.is_empty() || names.len() > 8 || !rises(names) {
+            return None;
         }
-        if !rises(names) {
-            return false;
-        }
-        self.level_over(names) <= 7
+        let level = self.level_over(names);
+        (level <= 7).then_some(level)
     }
 
-    // The level of a view on these tables.
+    // One more than the highest level of these tables, 0 where there are none.
     fn level_over(&self, names: &[u16]) -> u8
         ensures value { result ≡ level_over self.now.tables names.now }
         ensures low { result ≤ 8 }
@@ -138,7 +134,7 @@ impl Catalogue {
     }
 }
 
-// No twin of `all_stand`: what they have in common is `all`.
+// Not one function with `all_stand`: what they have in common is the library's `all`.
 fn all_tables(names: &[u16]) -> bool
     ensures { IsTrue result ↔ AllByRecursion TableNumber names.now }
 {

@@ -15,4 +15,4 @@ pub returns-in_ok-group-in-Group-clause-answer : goal.returns-in_ok-group-in-Gro
 returns-in_ok-group-in-Group-clause-answer c = answered _ _ _ _ _ _ _ _ c.in-Group.is (search rules) refl (group_step c.args.catalogue.now c.group.new.catalogue (Ok tt) c.in-Group.n c.in_ok-group-in-Group.ensures.verdict c.in_ok-group-in-Group.ensures.effect)
 
 pub returns-in_default : goal.returns-in_default
-returns-in_default c = record { answer = late_set_up _ c.args.command c.requires.known c.in_default.not-User c.in_default.not-Group c.requires.stays; count = refl }
+returns-in_default c = record { answer = rw c.not_taken.ensures (late_set_up _ c.args.command c.in_default.not-User c.in_default.not-Group c.requires); count = refl }

@@ -15,4 +15,4 @@ pub returns-in_ok-view-in-View-clause-answer : goal.returns-in_ok-view-in-View-c
 returns-in_ok-view-in-View-clause-answer c = answered _ _ _ _ _ _ _ _ c.in-View.is (search rules) refl (view_step c.args.catalogue.now c.view.new.catalogue (Ok tt) c.in-View.i c.in-View.t c.in-View.d (rw c.listed.ensures at c.in_ok-view-in-View.ensures.verdict) (rw c.listed.ensures at c.in_ok-view-in-View.ensures.effect))
 
 pub returns-in_default : goal.returns-in_default
-returns-in_default c = record { answer = late_open _ c.args.command c.requires.known c.in_default.not-Base c.in_default.not-View c.requires.stays; count = refl }
+returns-in_default c = record { answer = rw c.not_taken.ensures (late_open _ c.args.command c.in_default.not-Base c.in_default.not-View c.requires); count = refl }

@@ -1,4 +1,4 @@
-use Rattle.std.proofs.Common.{ℕ, List, [], ◌∷◌, Ok, Err, Result, sym, ap, ◌∙◌, rules, arith}
+use Rattle.std.proofs.Common.{◌≡◌, ℕ, is_some, IfSome, Some, subst, List, [], ◌∷◌, Ok, Err, Result, sym, ap, ◌∙◌, rules, arith}
 use Rattle.std.specs.Result.{IsErr}
 use Rattle.std.proofs.lemmas.Bool.{false≢true}
 use Rattle.rights.specs.declared.faults.RegisterFault.{RegisterFault}
@@ -9,7 +9,7 @@ use Rattle.rights.specs.Tables.{Tables}
 use Rattle.rights.proofs.Checks.{first_early}
 use Rattle.register.specs.Catalogue.{making_checks}
 use Rattle.register.specs.Rows.{stand, rise, level_over}
-use Rattle.register.proofs.Levels.{stand_from, rise_decides, over_only}
+use Rattle.register.proofs.Levels.{stand_from, made_parts}
 use Rattle.register.proofs.Whole.{sound}
 use Rattle.register.proofs.catalogue.Catalogue.view.Goals as goal
 
@@ -23,14 +23,15 @@ pub returns-in_err-owner-clause-verdict : goal.returns-in_err-owner-clause-verdi
 returns-in_err-owner-clause-verdict c = refused _ _ _ _ _ _ c.from_residual.ensures.0 (search rules)
 
 pub add-requires : goal.add-requires
-unfolding WellMade
 add-requires c =
     let s = c.args.self.now in
     let xs = c.args.names.now in
     let allowed = c.in_ok-owner.ensures.allowed in
-    let made = c.well_made.ensures.0 c.if-not-well_made.false in
+    let found : c.view_level.result ≡ Some c.in_ok-level.level = c.in_ok-level.ensures.ok_part in
+    let made = made_parts _ _ (sound s) xs (c.view_level.ensures.made.0 (ap is_some found)) in
+    let is = subst (λ o. IfSome o (λ x. x ≡ level_over s.tables xs)) found c.view_level.ensures.value in
     let same = c.record_of.ensures.names in
-    let level = c.record_of.ensures.level ∙ c.level_over-level.ensures.value in
+    let level = c.record_of.ensures.level ∙ is in
     record {
       within = allowed.within;
       free = allowed.free;
@@ -38,7 +39,7 @@ add-requires c =
       few = c.record_of.ensures.count;
       blank = c.record_of.ensures.blank;
       standing = ap (stand s.tables) same ∙ stand_from s.tables xs allowed.standing;
-      rising = ap rise same ∙ (rise_decides xs).1 made.2;
+      rising = ap rise same ∙ made.2;
       levelled = level ∙ sym (ap (level_over s.tables) same);
-      low = omega (arith, level, over_only _ _ (sound s) made.3.1, made.3.2);
+      low = omega (arith, level, made.3);
     }
