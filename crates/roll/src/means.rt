@@ -11,7 +11,7 @@ ghost use Rattle.roll.specs.Sound.{Kept};
 use rights::RollFault;
 
 /// The half that only tells. Every roll is such a rising list of pairs, whatever it keeps.
-// Two numbers as they come: out of range is answered, by no or a refusal; below they are one `Pair`.
+// Two numbers as they come: out of range is answered, by no or a refusal; below, they are a `Pair`.
 pub trait Roll {
     ghost pairs: { Self → List Pair };
 

@@ -13,7 +13,7 @@ ghost use Rattle.roll.specs.Walks.{Reaches};
 use crate::means::{Roll, RollMut};
 use crate::numbers::both_subjects;
 use crate::pair_roll::PairRoll;
-use crate::reached::walk;
+use crate::reached::Rising;
 use rights::{Pair, RollFault};
 use rising::{Front, check_room};
 
@@ -70,7 +70,10 @@ impl<'a> PairRoll<'a> {
     pub(crate) fn reached(&self, s: u8) -> [bool; 256]
         ensures { Reaches (pairs_of self.now) s result }
     {
-        walk(self.front.as_slice(), s)
+        let pairs = Rising {
+            pairs: self.front.as_slice(),
+        };
+        pairs.walk(s)
     }
 
     // Adds a pair that may be added, at its place, unless the roll is full.
@@ -112,8 +115,11 @@ impl Roll for PairRoll<'_> {
     }
 
     fn within(&self, s: u16, g: u16) -> bool {
-        let pairs = self.front.as_slice();
-        both_subjects(s, g).is_ok_and(|p| walk(pairs, p.member)[usize::from(p.group)])
+        // no `is_ok_and`: the proof does not see into a closure that captures a roll or its `Rising`
+        let Ok(p) = both_subjects(s, g) else {
+            return false;
+        };
+        self.reached(p.member)[usize::from(p.group)]
     }
 }
 
