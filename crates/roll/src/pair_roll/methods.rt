@@ -1,5 +1,5 @@
 // What a pair roll does.
-ghost use Rattle.std.specs.Prelude.{◌≡◌, [], length, is_ok, if◌then◌else◌, IfOk, MatchResult};
+ghost use Rattle.std.specs.Prelude.{◌≡◌, [], length, IfOk, OnOk, OnErr, MatchResult};
 ghost use Rattle.rights.specs.declared.faults.RollFault.{RollFault};
 ghost use Rattle.rights.specs.Checks.{First, fault_of};
 ghost use Rattle.rights.specs.Lists.{In};
@@ -82,9 +82,8 @@ impl<'a> PairRoll<'a> {
         requires place { Gap (pairs_of self.old) p k }
         ensures refuses { First (full_checks (pairs_of self.old) (ceiling_of self.old))
             (fault_of result) }
-        ensures adds { pairs_of self.new ≡ (if is_ok result
-            then added p (pairs_of self.old)
-            else pairs_of self.old) }
+        ensures put { OnOk result (pairs_of self.new ≡ added p (pairs_of self.old)) }
+        ensures unchanged { OnErr result (pairs_of self.new ≡ pairs_of self.old) }
         ensures keeps { ceiling_of self.new ≡ ceiling_of self.old }
         ensures rest { SameRest self.old self.new }
     {
