@@ -54,7 +54,8 @@ pub trait RollMut: Roll {
     /// Takes (m, g) out and nothing else, or refuses.
     fn take(&mut self, m: u16, g: u16) -> Result<(), RollFault>
         ensures refuses { First (take_checks (Self.pairs self.old) m g) (fault_of result) }
-        ensures taken { OnOk result (Self.pairs self.new ≡ dropped (pair m g) (Self.pairs self.old)) }
+        ensures taken { OnOk result
+            (Self.pairs self.new ≡ dropped (pair m g) (Self.pairs self.old)) }
         ensures unchanged { OnErr result (Self.pairs self.new ≡ Self.pairs self.old) }
         ensures keeps { Self.ceiling self.new ≡ Self.ceiling self.old }
         ensures rest { leaves_rest self.old self.new };

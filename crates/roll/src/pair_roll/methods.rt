@@ -114,7 +114,8 @@ impl Roll for PairRoll<'_> {
     }
 
     fn within(&self, s: u16, g: u16) -> bool {
-        // no `is_ok_and`: the proof does not see into a closure that captures a roll or its `Rising`
+        // `is_ok_and` was tried: a proof does not see into a closure that captures a struct that
+        // keeps a fact, as the roll and `Rising` do
         let Ok(p) = both_subjects(s, g) else {
             return false;
         };
