@@ -1,5 +1,5 @@
 -- The checks of a put and of a take, one after another.
-use Rattle.std.proofs.Common.{◌≡◌, ◌↔◌, ℕ, Bool, IsTrue, is_ok, ⊎_elim, IfOk, IsErrAnd, IsOk, OnOk, rules, Ok, Err, Result, MatchResult, List, Some, None, Option, sym, refl, subst}
+use Rattle.std.proofs.Common.{◌≡◌, ◌↔◌, ℕ, Bool, IsTrue, is_ok, ⊎_elim, IfOk, IsErrAnd, IsOk, OnOk, OnErr, rules, Ok, Err, Result, MatchResult, List, Some, None, Option, sym, refl, subst}
 use Rattle.std.proofs.lemmas.Bool.{both_ways}
 use Rattle.std.proofs.lemmas.Result.{err_from_is_err_and}
 use Rattle.rights.specs.declared.entries.Pair.{Pair}
@@ -47,6 +47,10 @@ module _ (K : List Pair) (m g : ℕ) where
 pub on_ok : {T E : Type 0} (r : Result T E) (P : Type 0) → IsOk r → OnOk r P → P
 on_ok (Ok x) P h k = k
 on_ok (Err e) P h k = absurd (search rules)
+
+pub ok_only : {T E : Type 0} (r : Result T E) (P Q : Type 0) → IsOk r → P → OnOk r P × OnErr r Q
+ok_only (Ok x) P Q h k = (k, tt)
+ok_only (Err e) P Q h k = absurd (search rules)
 
 pub fault_none : {T F : Type 0} (r : Result T F) → IsOk r → fault_of r ≡ None
 fault_none (Ok x) h = refl

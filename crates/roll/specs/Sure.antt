@@ -12,7 +12,7 @@ all_prop : (P : Pair → Type 0) → ((p : Pair) → IsProp (P p)) → (ps : Lis
 all_prop P one [] = λ x y. refl
 all_prop P one (p ∷ ps) = ×_prop (one p) (all_prop P one ps)
 
-rising_prop : (ps : List Pair) → IsProp (RisingPairs ps)
+pub rising_prop : (ps : List Pair) → IsProp (RisingPairs ps)
 rising_prop [] = λ x y. refl
 rising_prop (p ∷ ps) = ×_prop (all_prop (Before p) (λ q. ×_prop le_prop (Π_prop (λ _. le_prop))) ps) (rising_prop ps)
 

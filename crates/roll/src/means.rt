@@ -1,5 +1,5 @@
 // What a roll means: a set of pairs without loops, and a ceiling that it keeps to.
-ghost use Rattle.std.specs.Prelude.{◌≡◌, ◌↔◌, ℕ, List, length, is_ok, if◌then◌else◌, IsTrue};
+ghost use Rattle.std.specs.Prelude.{◌≡◌, ◌↔◌, ℕ, List, length, OnOk, OnErr, IsTrue};
 ghost use Rattle.rights.specs.declared.entries.Pair.{Pair};
 ghost use Rattle.rights.specs.Checks.{First, fault_of};
 ghost use Rattle.rights.specs.Lists.{In};
@@ -11,6 +11,7 @@ ghost use Rattle.roll.specs.Sound.{Kept};
 use rights::RollFault;
 
 /// The half that only tells. Every roll is such a rising list of pairs, whatever it keeps.
+// Two numbers as they come: out of range is answered, by no or a refusal; below, they are a `Pair`.
 pub trait Roll {
     ghost pairs: { Self → List Pair };
 
@@ -45,18 +46,17 @@ pub trait RollMut: Roll {
     fn put(&mut self, m: u16, g: u16) -> Result<(), RollFault>
         ensures refuses { First (put_checks (Self.pairs self.old) (Self.ceiling self.old) m g)
             (fault_of result) }
-        ensures adds { Self.pairs self.new ≡ (if is_ok result
-            then added (pair m g) (Self.pairs self.old)
-            else Self.pairs self.old) }
+        ensures put { OnOk result (Self.pairs self.new ≡ added (pair m g) (Self.pairs self.old)) }
+        ensures unchanged { OnErr result (Self.pairs self.new ≡ Self.pairs self.old) }
         ensures keeps { Self.ceiling self.new ≡ Self.ceiling self.old }
         ensures rest { leaves_rest self.old self.new };
 
     /// Takes (m, g) out and nothing else, or refuses.
     fn take(&mut self, m: u16, g: u16) -> Result<(), RollFault>
         ensures refuses { First (take_checks (Self.pairs self.old) m g) (fault_of result) }
-        ensures drops { Self.pairs self.new ≡ (if is_ok result
-            then dropped (pair m g) (Self.pairs self.old)
-            else Self.pairs self.old) }
+        ensures taken { OnOk result
+            (Self.pairs self.new ≡ dropped (pair m g) (Self.pairs self.old)) }
+        ensures unchanged { OnErr result (Self.pairs self.new ≡ Self.pairs self.old) }
         ensures keeps { Self.ceiling self.new ≡ Self.ceiling self.old }
         ensures rest { leaves_rest self.old self.new };
 }

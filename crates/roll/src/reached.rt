@@ -4,6 +4,7 @@ ghost use Rattle.arrayvec.specs.ArrayVec.{array_vec_len};
 ghost use Rattle.rights.specs.Lists.{In};
 ghost use Rattle.rights.specs.Pairs.{pair, RisingPairs};
 ghost use Rattle.roll.specs.Places.{Start};
+ghost use Rattle.roll.specs.Sure.{rising_prop};
 ghost use Rattle.roll.specs.Walks.{unmarked, Marks, Reaches};
 
 use arrayvec::ArrayVec;
@@ -16,7 +17,7 @@ struct Reached {
     found: ArrayVec<u8, 256>,
     next: usize,
     ghost long: { length marks ≡ 256 },
-    ghost room: { array_vec_len found + unmarked marks ≤ 256 },
+    ghost room: { array_vec_len found + unmarked marks ≡ 256 },
     ghost inside: { next ≤ array_vec_len found },
 }
 
@@ -63,50 +64,56 @@ impl Reached {
     }
 }
 
-// Where the pairs of m begin, or would begin.
-fn start(pairs: &[Pair], m: u8) -> usize
-    requires { RisingPairs pairs.now }
-    ensures bound { result ≤ length pairs.now }
-    ensures start { Start pairs.now m result }
-{
-    let mut low = 0;
-    let mut high = pairs.len();
-    // by hand: with `partition_point`, which never stops early, a walk took 1.8 times as long
-    while low < high {
-        let mid = low + (high - low) / 2;
-        if pairs[mid].member < m {
-            low = mid + 1;
-        } else {
-            high = mid;
-        }
-    }
-    low
+// The pairs that a walk goes over: they rise.
+#[derive(Clone, Copy)]
+pub(crate) struct Rising<'a> {
+    pub(crate) pairs: &'a [Pair],
+    ghost rises: { RisingPairs pairs.now } by { rising_prop pairs.now },
 }
 
-// Marks the groups that m is a direct member of.
-fn spread(pairs: &[Pair], m: u8, seen: &mut Reached)
-    requires { RisingPairs pairs.now }
-    ensures { Marks (λ h. In (pair m h) pairs.now) seen.old.marks seen.new.marks
-        (drop seen.old.next seen.old.found.items) (drop seen.new.next seen.new.found.items) }
-{
-    let first = start(pairs, m);
-    // `take_while` is no plainer: the same test in a closure, and the same loop
-    for p in &pairs[first..] {
-        if p.member != m {
-            return;
+impl Rising<'_> {
+    // Where the pairs of m begin, or would begin.
+    fn start(self, m: u8) -> usize
+        ensures bound { result ≤ length self.entry.pairs.now }
+        ensures start { Start self.entry.pairs.now m result }
+    {
+        let mut low = 0;
+        let mut high = self.pairs.len();
+        // by hand: with `partition_point` a walk took about 1.7 times as long
+        while low < high {
+            let mid = low + (high - low) / 2;
+            if self.pairs[mid].member < m {
+                low = mid + 1;
+            } else {
+                high = mid;
+            }
         }
-        seen.mark(p.group);
+        low
     }
-}
 
-// All that s is within.
-pub(crate) fn walk(pairs: &[Pair], s: u8) -> [bool; 256]
-    requires { RisingPairs pairs.now }
-    ensures { Reaches pairs.now s result }
-{
-    let mut seen = Reached::alone(s);
-    while let Some(m) = seen.next() {
-        spread(pairs, m, &mut seen);
+    // Marks the groups that m is a direct member of.
+    fn spread(self, m: u8, seen: &mut Reached)
+        ensures { Marks (λ h. In (pair m h) self.entry.pairs.now) seen.old.marks seen.new.marks
+            (drop seen.old.next seen.old.found.items) (drop seen.new.next seen.new.found.items) }
+    {
+        let first = self.start(m);
+        // `take_while` is no plainer: the same test in a closure, and the same loop
+        for p in &self.pairs[first..] {
+            if p.member != m {
+                return;
+            }
+            seen.mark(p.group);
+        }
     }
-    seen.marks
+
+    // All that s is within.
+    pub(crate) fn walk(self, s: u8) -> [bool; 256]
+        ensures { Reaches self.entry.pairs.now s result }
+    {
+        let mut seen = Reached::alone(s);
+        while let Some(m) = seen.next() {
+            self.spread(m, &mut seen);
+        }
+        seen.marks
+    }
 }

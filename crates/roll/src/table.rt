@@ -36,7 +36,8 @@ pub(crate) fn join(table: &mut [[bool; 256]; 256], p: Pair)
     ensures { Joined p.member p.group table.old table.new }
 {
     let above = table[usize::from(p.group)];
-    // tried: `for row in table`; after `iter_mut` a proof knows the table's length, and no row
+    // by place: after a loop over `iter_mut` a proof knows how many rows there are, and not what
+    // they hold
     for s in 0..256 {
         if table[s][usize::from(p.member)] {
             table[s] = merged(&table[s], &above);

@@ -6,7 +6,7 @@ mod stories;
 
 use rights::Pair;
 use roll::{PairRoll, ReachRoll};
-use rolls::Tally;
+use rolls::{Tally, Trial};
 use std::io;
 
 const NONE: Pair = Pair {
@@ -15,27 +15,36 @@ const NONE: Pair = Pair {
 };
 
 fn main(rt: HostRuntime) -> io::Result<()> {
+    // arrays of fixed size here and below: the rolls are lent their lists
     let mut first = [NONE; 2048];
     let mut second = [NONE; 2048];
-    let mut a = PairRoll::new(&mut first, 2048);
-    let mut b = ReachRoll::new(&mut second, 2048);
-    let mut tally = Tally::default();
-    stories::diamond(&mut a, &mut b, &mut tally);
-    println!(rt; "diamond {tally:?}")?;
-    stories::chain(&mut a, &mut b, &mut tally);
-    println!(rt; "chain {tally:?}")?;
-    stories::mixed(&mut a, &mut b, &mut tally);
-    println!(rt; "mixed {tally:?}")?;
+    let mut wide = Trial {
+        a: PairRoll::new(&mut first, 2048),
+        b: ReachRoll::new(&mut second, 2048),
+        tally: Tally::default(),
+    };
+    wide.diamond();
+    println!(rt; "diamond {:?}", wide.tally)?;
+    wide.chain();
+    println!(rt; "chain {:?}", wide.tally)?;
+    wide.mixed();
+    println!(rt; "mixed {:?}", wide.tally)?;
     let mut third = [NONE; 8];
     let mut fourth = [NONE; 8];
-    let mut c = PairRoll::new(&mut third, 4);
-    let mut d = ReachRoll::new(&mut fourth, 4);
-    stories::ceiling(&mut c, &mut d, &mut tally);
-    println!(rt; "ceiling {tally:?}")?;
+    let mut narrow = Trial {
+        a: PairRoll::new(&mut third, 4),
+        b: ReachRoll::new(&mut fourth, 4),
+        tally: wide.tally,
+    };
+    narrow.ceiling();
+    println!(rt; "ceiling {:?}", narrow.tally)?;
     let mut fifth = [NONE; 8];
     let mut sixth = [NONE; 8];
-    let mut e = PairRoll::new(&mut fifth, 9);
-    let mut f = ReachRoll::new(&mut sixth, 9);
-    stories::ceiling(&mut e, &mut f, &mut tally);
-    println!(rt; "no ceiling {tally:?}")
+    let mut refused = Trial {
+        a: PairRoll::new(&mut fifth, 9),
+        b: ReachRoll::new(&mut sixth, 9),
+        tally: narrow.tally,
+    };
+    refused.ceiling();
+    println!(rt; "no ceiling {:?}", refused.tally)
 }

@@ -1,5 +1,5 @@
 // What a pair roll does.
-ghost use Rattle.std.specs.Prelude.{◌≡◌, [], length, is_ok, if◌then◌else◌, IfOk, MatchResult};
+ghost use Rattle.std.specs.Prelude.{◌≡◌, [], length, IfOk, OnOk, OnErr, MatchResult};
 ghost use Rattle.rights.specs.declared.faults.RollFault.{RollFault};
 ghost use Rattle.rights.specs.Checks.{First, fault_of};
 ghost use Rattle.rights.specs.Lists.{In};
@@ -13,7 +13,7 @@ ghost use Rattle.roll.specs.Walks.{Reaches};
 use crate::means::{Roll, RollMut};
 use crate::numbers::both_subjects;
 use crate::pair_roll::PairRoll;
-use crate::reached::walk;
+use crate::reached::Rising;
 use rights::{Pair, RollFault};
 use rising::{Front, check_room};
 
@@ -70,7 +70,10 @@ impl<'a> PairRoll<'a> {
     pub(crate) fn reached(&self, s: u8) -> [bool; 256]
         ensures { Reaches (pairs_of self.now) s result }
     {
-        walk(self.front.as_slice(), s)
+        let pairs = Rising {
+            pairs: self.front.as_slice(),
+        };
+        pairs.walk(s)
     }
 
     // Adds a pair that may be added, at its place, unless the roll is full.
@@ -79,9 +82,8 @@ impl<'a> PairRoll<'a> {
         requires place { Gap (pairs_of self.old) p k }
         ensures refuses { First (full_checks (pairs_of self.old) (ceiling_of self.old))
             (fault_of result) }
-        ensures adds { pairs_of self.new ≡ (if is_ok result
-            then added p (pairs_of self.old)
-            else pairs_of self.old) }
+        ensures put { OnOk result (pairs_of self.new ≡ added p (pairs_of self.old)) }
+        ensures unchanged { OnErr result (pairs_of self.new ≡ pairs_of self.old) }
         ensures keeps { ceiling_of self.new ≡ ceiling_of self.old }
         ensures rest { SameRest self.old self.new }
     {
@@ -112,8 +114,12 @@ impl Roll for PairRoll<'_> {
     }
 
     fn within(&self, s: u16, g: u16) -> bool {
-        let pairs = self.front.as_slice();
-        both_subjects(s, g).is_ok_and(|p| walk(pairs, p.member)[usize::from(p.group)])
+        // `is_ok_and` was tried: a proof does not see into a closure that captures a struct that
+        // keeps a fact, as the roll and `Rising` do
+        let Ok(p) = both_subjects(s, g) else {
+            return false;
+        };
+        self.reached(p.member)[usize::from(p.group)]
     }
 }
 

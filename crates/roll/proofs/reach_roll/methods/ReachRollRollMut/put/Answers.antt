@@ -38,7 +38,7 @@ add-requires-clause-may c =
     (not_from_Decides (says x.table p.group p.member) (current_sure (pairs_of x) x.table x.current p.group p.member l.1 l.0) (rw (c.from.ensures, c.from-2.ensures) at c.if-self-from.false))
 
 pub invariant_of-self : goal.invariant_of-self
-invariant_of-self c = record { current = subst (λ K. ∥ Current K c.args.self.now.table ∥₁) (sym c.in_err-add.ensures.adds) c.args.self.now.current }
+invariant_of-self c = record { current = subst (λ K. ∥ Current K c.args.self.now.table ∥₁) (sym c.in_err-add.ensures.unchanged) c.args.self.now.current }
 
 pub returns-in_err-add-clause-refuses : goal.returns-in_err-add-clause-refuses
 returns-in_err-add-clause-refuses c =
@@ -55,7 +55,7 @@ invariant_of-self-2 c =
     let x = c.args.self.now in
     let p = c.in_ok-p.p in
     let l = in_table p c.args.m c.args.g c.in_ok-p.ensures.1 c.in_ok-p.ensures.0 in
-    record { current = ∥∥₁_map x.current (λ t. subst (λ K. Current K c.join.new.table) (sym c.in_ok-add.ensures.adds) (current_joined (pairs_of x) p.member p.group l.0 l.1 x.table c.join.new.table t c.join.ensures)) }
+    record { current = ∥∥₁_map x.current (λ t. subst (λ K. Current K c.join.new.table) (sym c.in_ok-add.ensures.put) (current_joined (pairs_of x) p.member p.group l.0 l.1 x.table c.join.new.table t c.join.ensures)) }
 
 pub returns-clause-refuses : goal.returns-clause-refuses
 returns-clause-refuses c =
