@@ -47,7 +47,8 @@ fn push_answer(text: &mut ArrayString<SHORTEST_BUFFER>, answer: &Answer)
     }
 }
 
-// The answer to a line, as it is printed.
+// The answer to a line, as it is printed. The number and the answer stay two all the way: a caller
+// has one from the reader and the other from the sitting.
 #[tactic(auto, using(crate::proofs::Sizes::short, std::proofs::lemmas::Grind::common_steps), unfolding(crate::specs::Answers::answer_line))]
 fn printed(line: u32, answer: &Answer) -> ArrayString<SHORTEST_BUFFER>
     ensures text { result.bytes ≡ answer_line line answer.now }
