@@ -1,3 +1,4 @@
+pub mod Arrays
 pub mod Access
 pub mod Basics
 pub mod Bits

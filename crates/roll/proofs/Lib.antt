@@ -1,4 +1,3 @@
-pub mod Arrays
 pub mod Currents
 pub mod Lists
 pub mod Makings

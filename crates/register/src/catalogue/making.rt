@@ -1,5 +1,5 @@
 // Making base tables and views. Issuer and table stay plain numbers, as a command carries them.
-ghost use Rattle.std.specs.Prelude.{◌≡◌, ◌≤◌, ◌↔◌, true, [], length, IsTrue, IsSome, IfSome, IfOk, OnOk, MatchResult};
+ghost use Rattle.std.specs.Prelude.{◌≡◌, ◌≤◌, ◌↔◌, true, [], length, IsTrue, IsSome, IfSome, IfOk, OnOk, MatchResult, slice_index_or};
 ghost use Rattle.std.specs.List.{AllByRecursion};
 ghost use Rattle.register.specs.Catalogue.{subjects_in, tables_in, record_at, making_checks, Allowed, Fitting, Tabled};
 ghost use Rattle.register.specs.Rows.{table_of, names_of, level_at, level_over, rise, BlankPast};
@@ -10,6 +10,7 @@ ghost use Rattle.rights.specs.Tables.{Stands};
 
 use crate::catalogue::Catalogue;
 use rights::{RegisterFault, TableRecord};
+use std::array;
 
 impl Catalogue {
     /// Makes base table `table` with owner `issuer`.
@@ -157,15 +158,21 @@ fn record_of(owner: u8, level: u8, names: &[u16]) -> TableRecord
     ensures owner { result.owner ≡ owner }
     ensures level { result.level ≡ level }
 {
-    // a record is Copy, so its list is an array
-    let mut list = [0; 8];
-    for (k, d) in names.iter().enumerate() {
-        list[k] = u8::try_from(*d).unwrap();
-    }
     TableRecord {
         owner,
         level,
         count: names.len(),
-        names: list,
+        // a record is Copy, so its list is an array
+        names: array::from_fn(|k| name_at(names, k)),
     }
+}
+
+// Name k, 0 past the last.
+fn name_at(names: &[u16], k: usize) -> u8
+    ensures { AllByRecursion TableNumber names.now → result ≡ slice_index_or names.now k 0 }
+{
+    names
+        .get(k)
+        .and_then(|d| u8::try_from(*d).ok())
+        .unwrap_or(0)
 }

@@ -1,6 +1,6 @@
 use Rattle.std.proofs.Common.{[], rules}
 use Rattle.roll.specs.Tables.{RowOf}
-use Rattle.roll.proofs.Arrays.{made_at}
+use Rattle.rights.proofs.Arrays.{made_at}
 use Rattle.roll.proofs.Currents.{current_none}
 use Rattle.roll.proofs.table.alone.Goals as goal
 

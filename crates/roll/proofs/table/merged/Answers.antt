@@ -1,5 +1,5 @@
 use Rattle.std.proofs.Common.{◌≡◌, false, ◌||◌, get_or, rules}
-use Rattle.roll.proofs.Arrays.{made_at}
+use Rattle.rights.proofs.Arrays.{made_at}
 use Rattle.roll.proofs.table.merged.Goals as goal
 
 pub returns : goal.returns
