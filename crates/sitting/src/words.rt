@@ -54,7 +54,8 @@ impl Sitting {
     }
 }
 
-// What a state refuses a word for that is none of its own: it is out of turn, or does not run today.
+// What a state refuses a word for that is none of its own: it is out of turn, or does not run
+// today.
 fn not_taken(command: &Command) -> SheetFault
     ensures { result ≡ untaken command.now }
 {
