@@ -10,7 +10,8 @@ pub enum Subject {
 
 /// A table: its owner, its level, and the tables that it names, the first `count` of the list. A base
 /// table names none. In a catalogue the list holds 0 past them.
-// An array with a count: a record is copied out of the catalogue, which has no heap.
+// An array with a count: a record is copied out of the catalogue, which has no heap. Not one type with
+// the list of a command: callers name the fields of both.
 #[derive(Clone, Copy)]
 pub struct TableRecord {
     pub owner: u8,

@@ -77,6 +77,7 @@ impl<'a, T: Copy> Front<'a, T> {
         ensures none { IfNone result (self.new ≡ self.old) }
     {
         let used = self.used;
+        // a guard, as in `replace`
         if k >= used {
             return None;
         }
