@@ -1,4 +1,5 @@
-// A sitting in whichever state it is, and the call that carries out one command.
+// A sitting in whichever state it is, and the call that carries out one command. The catalogue stands
+// beside a sitting and a command in each signature, since it is lent at each call.
 ghost use Rattle.std.specs.Prelude.{◌≡◌, ◌≢◌};
 ghost use Rattle.rights.specs.Faults.{answer_of};
 ghost use Rattle.sitting.specs.Counts.{Counted};
@@ -111,7 +112,7 @@ fn enrol(
     }
 }
 
-// A command to an open sitting.
+// A command to an open sitting. Not one function with `prepare`: the states are two types.
 fn work(mut sitting: Open, catalogue: &mut Catalogue, command: Command) -> (Sitting, Answer)
     ensures answer { Answered State.Open (history_of catalogue.old) command
         result.1 (state_of result.0) (history_of catalogue.new) }
