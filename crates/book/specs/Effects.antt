@@ -2,13 +2,14 @@
 -- with_entry: the list with e in its place. without_entry: the list without e.
 -- put_checks, take_checks, make_checks: the refusals of each call in their order.
 -- Kept: what every book keeps.
-use Rattle.std.specs.Prelude.{◌≡◌, ℕ, ◌<◌, ◌≤◌, cond, ◌⊎◌, List, [], ◌∷◌, length, Some, None}
+use Rattle.std.specs.Prelude.{◌≡◌, ℕ, ◌≤◌, cond, ◌⊎◌, List, [], ◌∷◌, length, Some, None}
 use Rattle.std.specs.List.{AllByRecursion}
 use Rattle.rights.specs.declared.entries.Entry.{Entry}
 use Rattle.rights.specs.declared.faults.BookFault.{BookFault}
 use Rattle.rights.specs.Checks.{Check, refuse, First}
 use Rattle.rights.specs.Entries.{Proper, RisingEntries, before, same_entry}
 use Rattle.rights.specs.Lists.{In}
+use Rattle.rising.specs.Rooms.{lent_checks}
 
 unfoldable pub with_entry : Entry → List Entry → List Entry
 with_entry e [] = e ∷ []
@@ -29,8 +30,7 @@ take_checks es e = refuse BookFault.BadNumber (Proper e → ⊥) ∷ refuse Book
 
 -- a list shorter than the ceiling wanted; a ceiling of 0 or above 4,096
 abbrev pub make_checks : ℕ → ℕ → List (Check BookFault)
-make_checks room wanted =
-    refuse BookFault.ShortList (room < wanted) ∷ refuse BookFault.BadNumber ((wanted ≡ 0) ⊎ (4096 < wanted)) ∷ []
+make_checks = lent_checks BookFault.ShortList BookFault.BadNumber 4096
 
 -- the ceiling of a book made over a list of that room: the one wanted, or 0 where the check refuses
 abbrev pub Ceiling : ℕ → ℕ → ℕ → Type 0

@@ -1,5 +1,5 @@
 -- What a roll refuses, in order, and what it answers about numbers out of range.
-use Rattle.std.specs.Prelude.{◌≡◌, ℕ, ◌<◌, ◌⊎◌, List, [], ◌∷◌, length, Some, None}
+use Rattle.std.specs.Prelude.{◌≡◌, ℕ, List, [], ◌∷◌, length, Some, None}
 use Rattle.rights.specs.declared.entries.Pair.{Pair}
 use Rattle.rights.specs.declared.faults.RollFault.{RollFault}
 use Rattle.rights.specs.Checks.{Check, First, refuse}
@@ -7,6 +7,7 @@ use Rattle.rights.specs.Lists.{In}
 use Rattle.rights.specs.Numbers.{SubjectNumber}
 use Rattle.rights.specs.Pairs.{pair, Proper}
 use Rattle.rights.specs.Within.{Within}
+use Rattle.rising.specs.Rooms.{lent_checks}
 
 -- both are numbers of subjects
 abbrev pub BothSubjects : ℕ → ℕ → Type 0
@@ -42,10 +43,7 @@ take_checks pairs m g =
 
 -- before a roll is made: a list of so many places, and the ceiling wanted
 abbrev pub make_checks : ℕ → ℕ → List (Check RollFault)
-make_checks places ceiling =
-    refuse RollFault.ShortList (places < ceiling)
-    ∷ refuse RollFault.BadNumber ((ceiling ≡ 0) ⊎ (2048 < ceiling))
-    ∷ []
+make_checks = lent_checks RollFault.ShortList RollFault.BadNumber 2048
 
 -- the ceiling of a roll as it was made: the one wanted, or 0 where the check refuses
 pub record Granted (places wanted ceiling : ℕ) : Type 0 where
