@@ -3,8 +3,7 @@
 -- climbs, numbered: the tests of a list that rises by key, and of its running counts. counted_on: the list with such counts.
 -- turned: a cell with one entry put in or taken out.
 -- CellFinding: where the cell of an entry stands or belongs.
-use Rattle.std.specs.Prelude.{◌≡◌, ℕ, ◌+◌, ◌/◌, ◌%◌, ◌^◌, ◌<◌, ◌≤◌, Bool, true, cond, ◌&&◌, List, [], ◌∷◌, length, take, drop, Ok, Err, Result, ◌==◌, nat_lt, slice_index_or}
-use lib.Bits.{bit_xor}
+use Rattle.std.specs.Prelude.{◌≡◌, ℕ, ◌+◌, ◌/◌, ◌%◌, ◌^◌, ◌<◌, ◌≤◌, Bool, true, cond, ◌&&◌, List, [], ◌∷◌, length, take, drop, Ok, Err, Result, ◌==◌, nat_lt, slice_index_or, bit_xor}
 use Rattle.std.specs.List.{flat_map, list_all, AllByRecursion}
 use Rattle.rights.specs.declared.entries.Entry.{Entry}
 use Rattle.rights.specs.declared.vocabulary.Right.{Right}
