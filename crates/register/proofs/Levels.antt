@@ -51,7 +51,7 @@ module _ (ss : List (Option Subject)) (ts : List (Option TableRecord)) (s : Soun
   pub level_is : (t : ℕ) (r : TableRecord) → get_or ts t None ≡ Some r → Level (tables_of ts) t r.level
   level_is t r e = levels (suc r.level) t r e (omega arith)
 
-  level_over_is : (ds : List ℕ) → stand ts ds ≡ true → LevelOver (tables_of ts) ds (level_over ts ds)
+  pub level_over_is : (ds : List ℕ) → stand ts ds ≡ true → LevelOver (tables_of ts) ds (level_over ts ds)
   level_over_is ds e = over (level_over ts ds) (levels (level_over ts ds)) ds e (omega arith)
 
   mutual
@@ -60,7 +60,7 @@ module _ (ss : List (Option Subject)) (ts : List (Option TableRecord)) (s : Soun
         let found = record_of ts t r e in
         over_only over ∙ ap (λ (x : Table). level_over ts x.names) found.2 ∙ sym (s.levelled t found.0 found.1) ∙ sym (ap level_at found.1)
 
-    over_only : {ds : List ℕ} {n : ℕ} → LevelOver (tables_of ts) ds n → n ≡ level_over ts ds
+    pub over_only : {ds : List ℕ} {n : ℕ} → LevelOver (tables_of ts) ds n → n ≡ level_over ts ds
     over_only LevelOver.over_none = refl
     over_only (LevelOver.over_more one rest) = omega (arith, level_only one, over_only rest)
 

@@ -169,10 +169,8 @@ fn record_of(owner: u8, level: u8, names: &[u16]) -> TableRecord
 
 // Name k, 0 past the last.
 fn name_at(names: &[u16], k: usize) -> u8
-    ensures { AllByRecursion TableNumber names.now → result ≡ slice_index_or names.now k 0 }
+    requires { AllByRecursion TableNumber names.now }
+    ensures { result ≡ slice_index_or names.now k 0 }
 {
-    names
-        .get(k)
-        .and_then(|d| u8::try_from(*d).ok())
-        .unwrap_or(0)
+    names.get(k).map_or(0, |d| *d as u8)
 }
