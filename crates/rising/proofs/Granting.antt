@@ -7,18 +7,18 @@ use Rattle.rights.proofs.Checks.{some_none, first_unique}
 use Rattle.rising.specs.Rooms.{room_checks, Granted}
 
 module _ (limit places wanted : ℕ) where
-  granted_fits : First (room_checks limit places wanted) None → Granted limit places wanted wanted
+  pub granted_fits : First (room_checks limit places wanted) None → Granted limit places wanted wanted
   granted_fits h = record { fits = λ _. refl; refused = λ f k. absurd (some_none f (first_unique (room_checks limit places wanted) (Some f) None k h)) }
 
-  granted_refused : (f : RoomFault) → First (room_checks limit places wanted) (Some f) → Granted limit places wanted 0
+  pub granted_refused : (f : RoomFault) → First (room_checks limit places wanted) (Some f) → Granted limit places wanted 0
   granted_refused f h = record { fits = λ k. absurd (some_none f (first_unique (room_checks limit places wanted) (Some f) None h k)); refused = λ _ _. refl }
 
-  granted_room : First (room_checks limit places wanted) None → wanted ≤ places
+  pub granted_room : First (room_checks limit places wanted) None → wanted ≤ places
   unfolding First
   granted_room (inl h) = absurd (some_none RoomFault.ShortList (sym h.1))
   granted_room (inr h) = ⊎_elim (λ l. absurd (h.0 l)) (λ l. l) (cases_lt places wanted)
 
-  granted_limit : First (room_checks limit places wanted) None → wanted ≤ limit
+  pub granted_limit : First (room_checks limit places wanted) None → wanted ≤ limit
   unfolding First
   granted_limit (inl h) = absurd (some_none RoomFault.ShortList (sym h.1))
   granted_limit (inr h) = ⊎_elim (λ k. absurd (some_none RoomFault.BadNumber (sym k.1))) (λ k. ⊎_elim (λ l. absurd (k.0 (inr l))) (λ l. l) (cases_lt limit wanted)) h.1

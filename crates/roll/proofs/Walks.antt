@@ -18,7 +18,7 @@ unmarked_less [] h l e = absurd (omega arith)
 unmarked_less (b ∷ bs) zero l e = let f : ◌≡◌ {A = ℕ} (cond b 0 1) 1 = ap (λ x. cond x 0 1) e in omega (arith, f)
 unmarked_less (b ∷ bs) (suc h) l e = omega (arith, unmarked_less bs h (omega arith) e)
 
-unmarked_all : (n : ℕ) → unmarked (replicate n false) ≡ n
+pub unmarked_all : (n : ℕ) → unmarked (replicate n false) ≡ n
 unfolding unmarked
 unmarked_all zero = refl
 unmarked_all (suc n) = omega (arith, unmarked_all n)

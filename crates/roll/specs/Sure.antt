@@ -1,4 +1,5 @@
 -- What every roll keeps is so in one way only.
+use Rattle.std.proofs.Math.Logic.{∥∥₁_elim}
 use Rattle.std.specs.Prelude.{ℕ, List, [], ◌∷◌, refl}
 use mathlib.Core.HLevel.{Π_prop, ×_prop}
 use Rattle.std.proofs.Math.Bridge.{le_prop}
@@ -23,12 +24,16 @@ loopless_prop : (ps : List Pair) → IsProp (Loopless ps)
 unfolding Loopless
 loopless_prop ps = Π_prop (λ s. Π_prop (λ _. λ x. absurd x))
 
-sound_prop : (ps : List Pair) → IsProp (Sound ps)
+pub sound_prop : (ps : List Pair) → IsProp (Sound ps)
 sound_prop ps x y i = record {
   rising = rising_prop ps x.rising y.rising i;
   proper = all_prop Proper proper_prop ps x.proper y.proper i;
   loopless = loopless_prop ps x.loopless y.loopless i;
 }
+
+-- what a type keeps of a roll's pairs, taken out
+pub sound_sure : (ps : List Pair) → ∥ Sound ps ∥₁ → Sound ps
+sound_sure ps h = ∥∥₁_elim h (sound_prop ps) (λ s. s)
 
 -- so a type may keep it as it is
 pub kept_prop : (ps : List Pair) (ceiling : ℕ) → IsProp (Kept ps ceiling)
