@@ -1,8 +1,9 @@
 -- The table stays current: at the start, with a pair more, with a pair less.
-use Rattle.std.proofs.Common.{◌≡◌, ◌↔◌, IsTrue, Ok, Err, Result, MatchResult, ℕ, ◌<◌, Bool, false, eqb, List, [], ◌∷◌, sym, ap, ◌∙◌, subst, inl, inr, ⊎_elim, arith}
+use Rattle.std.proofs.Common.{◌≡◌, ◌↔◌, IsTrue, Ok, Err, Result, MatchResult, ℕ, ◌<◌, Bool, true, false, eqb, get_or, set, replicate, List, [], ◌∷◌, sym, ap, ◌∙◌, subst, inl, inr, ⊎_elim, arith}
 use mathlib.Core.Bool.{Bool-set}
 use mathlib.Core.Logic.{∥∥₁_elim}
-use Rattle.std.proofs.lemmas.Bool.{both_ways, cases_Bool}
+use Rattle.std.proofs.lemmas.List.{get_or-replicate, length-replicate, get_or-set_same, get_or-set_other}
+use Rattle.std.proofs.lemmas.Bool.{both_ways, cases_Bool, cases_eq, eq-eqb, ne_eqb}
 use Rattle.std.proofs.lemmas.Bool.Decides.{Decides-at, Decides-like, Decides-and, Decides-or, Decides-eqb}
 use Rattle.rights.specs.declared.entries.Pair.{Pair}
 use Rattle.rights.specs.declared.faults.RollFault.{RollFault}
@@ -12,7 +13,7 @@ use Rattle.rights.specs.Within.{Within}
 use Rattle.rights.proofs.Within.{within_same, within_none, within_grows, within_more, within_or_not}
 use Rattle.roll.specs.Pairs.{same, added, dropped}
 use Rattle.roll.specs.Refusals.{BothSubjects, WithinRoll}
-use Rattle.roll.specs.Tables.{says, Current, Joined, Renewed}
+use Rattle.roll.specs.Tables.{says, Current, RowOf, Joined, Renewed}
 use Rattle.roll.proofs.Lists.{in_dropped, dropped_in}
 use Rattle.roll.proofs.Orders.{same_is, same_so}
 use Rattle.roll.proofs.Sounds.{within_added, added_within}
@@ -26,6 +27,14 @@ current_sure ps table t s h ls lh = (
   where
     no : (Within ps s h → ⊥) → says table s h ≡ false
     no n = ∥∥₁_elim t (Bool-set _ _) (λ c. ⊎_elim (λ e. absurd (n ((c s h ls lh).0 e))) (λ e. e) (cases_Bool (says table s h)))
+
+pub only_row : (k : ℕ) → k < 256 → RowOf k (set (replicate 256 false) k true)
+only_row k l = record {
+  alone = λ h lh. ⊎_elim
+      (λ q. ap (λ x. get_or (set (replicate 256 false) k true) x false) q ∙ get_or-set_same (replicate 256 false) k true false (omega (arith, length-replicate 256 false)) ∙ sym (eq-eqb k h (sym q)))
+      (λ n. get_or-set_other (replicate 256 false) k h true false n ∙ get_or-replicate 256 h false false lh ∙ sym (ne_eqb k h (λ q. n (sym q))))
+      (cases_eq h k);
+}
 
 pub current_none : (table : List (List Bool)) → ((s h : ℕ) → s < 256 → h < 256 → says table s h ≡ eqb s h) → Current [] table
 current_none table is s h ls lh = Decides-at (says table s h) (eqb s h) (is s h ls lh) (Decides-like (eqb s h) (within_same [] s h) (within_none s h) (Decides-eqb s h))

@@ -1,5 +1,5 @@
 // The table of who is within whom: nobody yet, a pair more, a pair less.
-ghost use Rattle.std.specs.Prelude.{[]};
+ghost use Rattle.std.specs.Prelude.{◌<◌, []};
 ghost use Rattle.roll.specs.PairRolls.{pairs_of};
 ghost use Rattle.roll.specs.Tables.{Current, RowOf, Merged, Joined, Renewed};
 
@@ -9,9 +9,12 @@ use std::array;
 
 // The row of s, with s alone.
 fn row_of(s: usize) -> [bool; 256]
+    requires { s < 256 }
     ensures { RowOf s result }
 {
-    array::from_fn(|h| s == h)
+    let mut row = [false; 256];
+    row[s] = true;
+    row
 }
 
 // Every number within itself alone.
@@ -20,6 +23,7 @@ pub(crate) fn alone() -> [[bool; 256]; 256]
 {
     array::from_fn(
         |s|
+            requires { s < 256 }
             ensures { RowOf s result }
         { row_of(s) },
     )
