@@ -35,6 +35,10 @@ impl Cells<'_> {
     pub(crate) fn entry(&self, k: usize) -> Option<Entry>
         ensures { result ≡ slice_get (packed self.now) k }
     {
+        // asked first: else a place past the entries costs a search of the cells and of a whole map
+        if k >= self.held_count() {
+            return None;
+        }
         let cells = self.front.as_slice();
         let cell = cells[..cells.partition_point(|cell| cell.earlier <= k)].last()?;
         cell.entry_at(k - cell.earlier)
