@@ -1,18 +1,24 @@
 -- The entry at a place: in a cell by its bits, and in a list of cells by their running counts.
-use Rattle.std.proofs.Common.{◌≡◌, ℕ, zero, suc, ◌+◌, ◌-◌, ◌%◌, ◌^◌, ◌<◌, ◌≤◌, Bool, true, false, cond, eqb, leb, ◌⊎◌, List, [], ◌∷◌, ◌++◌, map, length, get_or, take, drop, Some, None, sym, refl, ap, ◌∙◌, subst, inl, inr, ⊎_elim, zero-add, add-one, arith}
+use Rattle.std.proofs.Common.{◌≡◌, ℕ, zero, suc, ◌+◌, ◌-◌, ◌%◌, ◌^◌, ◌<◌, ◌≤◌, Bool, true, false, cond, eqb, leb, ◌⊎◌, List, [], ◌∷◌, ◌++◌, map, length, get_or, take, drop, Some, None, Option, Bor, sym, refl, ap, ◌∙◌, subst, inl, inr, ⊎_elim, zero-add, add-one, arith}
 use native.Mathlib.Nat.{div-eq_of_lt}
 use Rattle.std.proofs.Math.Nat.{pow-le-pow_right}
-use Rattle.std.specs.List.{slice_get, filter, enumerate_from}
-use Rattle.std.proofs.lemmas.Option.{none-some, slice_get-get_or, slice_get_within, get_or_from_slice_get}
-use Rattle.std.proofs.lemmas.List.{length-take-le, get_or-take, take_more, take_all, drop_all, append-nil, length-append}
+use Rattle.std.specs.List.{slice_get, filter, enumerate_from, range_with_len}
+use Rattle.std.specs.Slice.{IsItemAt}
+use Rattle.std.specs.Option.{option_map, option_copied}
+use Rattle.std.proofs.lemmas.Option.{none-some, slice_get-map, slice_get-get_or, slice_get_within, slice_get_past, get_or_from_slice_get}
+use Rattle.std.proofs.lemmas.List.{get_or_default, length-take-le, get_or-take, take_more, take_all, drop_all, append-nil, length-append}
 use Rattle.std.specs.List.Sorted.{IsNonDecreasingBy, IsPartitionPoint}
 use Rattle.std.proofs.lemmas.Bool.Decides.{nat_tests}
 use Rattle.std.proofs.lemmas.Bool.{cases_lt, and_parts, eqb-true, leb-true}
 use Rattle.rights.specs.declared.entries.Entry.{Entry}
 use Rattle.rights.specs.declared.vocabulary.Right.{Right}
-use Rattle.rights.specs.Bits.{bit}
+use Rattle.rights.specs.declared.vocabulary.Right.TheVariants.{Access}
+use Rattle.rights.specs.declared.vocabulary.Privilege.TheVariants.{Select}
+use Rattle.rights.specs.declared.vocabulary.Sign.TheVariants.{Plus}
+use Rattle.rights.specs.declared.vocabulary.Strength.{Strength}
+use Rattle.rights.specs.Bits.{bit, rows}
 use Rattle.book.specs.declared.keyed.Cell.{Cell}
-use Rattle.book.specs.Cells.{has, picked, unpacked, held, numbered}
+use Rattle.book.specs.Cells.{has, entry_of, picked, unpacked, held, numbered}
 use Rattle.book.proofs.Counts.{no_cell, numbered_at, length_held_push}
 use Rattle.book.proofs.Table.{numbered as rows_from}
 use Rattle.book.proofs.Turns.{held_whole}
@@ -32,6 +38,64 @@ picked_rows entry m (r ∷ rs) i test =
         map (λ p. entry p.1) (cond b ((i, r) ∷ filter (λ p. has m p.0) (enumerate_from (i + 1) rs)) (filter (λ p. has m p.0) (enumerate_from (i + 1) rs))) ≡ cond b (entry r ∷ picked entry m rs) (picked entry m rs)
     go true e = ap (λ l. entry r ∷ l) e
     go false e = e
+
+-- the same, told of their numbers alone
+pub picked_numbers : (entry : Right → Entry) (m : ℕ) (right_at : ℕ → Right) (rs : List Right) (i : ℕ) → ((k : ℕ) (d : Right) → k < length rs → right_at (i + k) ≡ get_or rs k d) → rows_from i rs ≡ true →
+    map (λ k. entry (right_at k)) (filter (has m) (range_with_len i (length rs))) ≡ picked entry m rs
+unfolding picked
+picked_numbers entry m right_at [] i is test = refl
+picked_numbers entry m right_at (r ∷ rs) i is test =
+    let t = and_parts (eqb (bit r) i) _ test in
+    let here : i ≡ i + 0 = omega arith in
+    go (has m i) (ap right_at here ∙ is 0 r (omega arith))
+    (picked_numbers entry m right_at rs (i + 1) (λ k d l. let up : i + 1 + k ≡ i + suc k = omega arith in ap right_at up ∙ is (suc k) d (omega arith)) (subst (λ j. rows_from j rs ≡ true) (sym (add-one i)) t.1))
+    ∙ ap (λ j. cond (has m j) (entry r ∷ picked entry m rs) (picked entry m rs)) (sym (eqb-true _ _ t.0))
+  where
+    go : (b : Bool) → right_at i ≡ r → map (λ k. entry (right_at k)) (filter (has m) (range_with_len (i + 1) (length rs))) ≡ picked entry m rs →
+        map (λ k. entry (right_at k)) (cond b (i ∷ filter (has m) (range_with_len (i + 1) (length rs))) (filter (has m) (range_with_len (i + 1) (length rs)))) ≡ cond b (entry r ∷ picked entry m rs) (picked entry m rs)
+    go true is_r e = ap (λ l. entry (right_at i) ∷ l) e ∙ ap (λ q. entry q ∷ picked entry m rs) is_r
+    go false is_r e = e
+
+passed_below : (test : ℕ → Bool) (i n j k : ℕ) → slice_get (filter test (range_with_len i n)) j ≡ Some k → k < i + n
+passed_below test i zero j k is = absurd (none-some k is)
+passed_below test i (suc n) j k is = go (λ j e. passed_below test (i + 1) n j k e) (test i) j is
+  where
+    go : ((j : ℕ) → slice_get (filter test (range_with_len (i + 1) n)) j ≡ Some k → k < i + 1 + n) → (b : Bool) (j : ℕ) → slice_get (cond b (i ∷ filter test (range_with_len (i + 1) n)) (filter test (range_with_len (i + 1) n))) j ≡ Some k → k < i + suc n
+    go later true zero e = let same : i ≡ k = cc in omega arith
+    go later true (suc j) e = let h = later j e in omega arith
+    go later false j e = let h = later j e in omega arith
+
+-- what the number at place n of those that are set tells of the entry there
+module _ (c : Cell) (n : ℕ) (r : Option ℕ) (is : option_map (λ k. k) r ≡ slice_get (filter (has c.rights) (range_with_len 0 32)) n) where
+  number_below : (k : ℕ) → r ≡ Some k → k < 32
+  number_below k e = passed_below (has c.rights) 0 32 n k (sym is ∙ ap (option_map (λ k. k)) e)
+
+  at_number : (d : Right) → option_map (λ k. entry_of c (get_or rows k d)) r ≡ slice_get (unpacked c) n
+  at_number d =
+      of_option r
+      ∙ ap (option_map (λ k. entry_of c (get_or rows k d))) is
+      ∙ sym (slice_get-map (λ k. entry_of c (get_or rows k d)) (filter (has c.rights) (range_with_len 0 32)) n)
+      ∙ ap (λ l. slice_get l n) (picked_numbers (entry_of c) c.rights (λ k. get_or rows k d) rows 0 (λ k e l. ap (λ j. get_or rows j d) (zero-add k) ∙ get_or_default rows k d e l) refl)
+    where
+      of_option : (o : Option ℕ) → option_map (λ k. entry_of c (get_or rows k d)) o ≡ option_map (λ k. entry_of c (get_or rows k d)) (option_map (λ k. k) o)
+      of_option None = refl
+      of_option (Some k) = refl
+
+  first : Right
+  first = Access Select Plus Strength.Weak
+
+  pub none_at_number : r ≡ None → None ≡ slice_get (unpacked c) n
+  none_at_number e = sym (ap (option_map (λ k. entry_of c (get_or rows k first))) e) ∙ at_number first
+
+  pub some_at_number : (k : ℕ) → r ≡ Some k → option_map (entry_of c) (slice_get rows k) ≡ slice_get (unpacked c) n
+  some_at_number k e =
+      ap (option_map (entry_of c)) (slice_get-get_or rows k first (number_below k e))
+      ∙ sym (ap (option_map (λ k. entry_of c (get_or rows k first))) e) ∙ at_number first
+
+-- what is lent of a place is what stands there
+pub item_read : {X : Type 0} (xs : List X) (i : ℕ) (r : Option (Bor X)) → IsItemAt xs i r → option_copied r ≡ slice_get xs i
+item_read xs i None h = sym (slice_get_past xs i h.3)
+item_read xs i (Some x) h = ap Some h.1 ∙ sym (slice_get-get_or xs i x.now h.3.0)
 
 -- no bit past the last row is set
 pub none_past : (m k : ℕ) → m < 2 ^ 32 → 32 ≤ k → false ≡ has m k
