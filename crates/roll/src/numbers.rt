@@ -12,10 +12,11 @@ fn subject(number: u16) -> Result<u8, RollFault>
         (λ s. SubjectNumber number × (s ≡ number))
         (λ f. (f ≡ RollFault.BadNumber) × ¬ SubjectNumber number) }
 {
-    u8::try_from(number)
-        .ok()
-        .filter(|s| *s != 0)
-        .ok_or(RollFault::BadNumber)
+    let s = u8::try_from(number).map_err(|_| RollFault::BadNumber)?;
+    if s == 0 {
+        return Err(RollFault::BadNumber);
+    }
+    Ok(s)
 }
 
 // The two, if both are numbers of subjects.
