@@ -46,6 +46,14 @@ test_false e f h = go (before e f) refl
     go true test = absurd (h ((decides_before e f).0 test))
     go false test = test
 
+-- an entry that stands in a rising list stands where it parts the list
+pub parts_stands : (e : Entry) (es : List Entry) (k : ℕ) → RisingEntries es → Parts (λ f. Before f e) es k → In e es → (k < length es) × (get_or es k e ≡ e)
+parts_stands e [] k up p i = absurd i
+parts_stands e (f ∷ fs) zero up p (inl h) = (omega arith, sym h)
+parts_stands e (f ∷ fs) zero up p (inr i) = absurd (p.above 0 e (omega arith) (omega arith) (all_in (Before f) e fs up.0 i))
+parts_stands e (f ∷ fs) (suc k) up p (inl h) = absurd (before_irreflexive e (subst (λ x. Before x e) (sym h) (p.below 0 e (omega arith))))
+parts_stands e (f ∷ fs) (suc k) up p (inr i) = let h = parts_stands e fs k up.1 (tail_parts p) i in (omega arith, h.1)
+
 pub parts_with : (e : Entry) (es : List Entry) (k : ℕ) → Parts (λ f. Before f e) es k → (In e es → ⊥) → with_entry e es ≡ insert es k e
 unfolding with_entry
 parts_with e [] zero p new = refl

@@ -25,6 +25,10 @@ use Rattle.book.proofs.Turns.{held_whole}
 
 -- ---- in a cell
 
+pub nth_next : {X : Type 0} (x : X) (xs : List X) (n : ℕ) → 0 < n → slice_get (x ∷ xs) n ≡ slice_get xs (n - 1)
+nth_next x xs zero h = absurd (omega arith)
+nth_next x xs (suc n) h = let e : n ≡ suc n - 1 = omega arith in ap (slice_get xs) e
+
 -- the entries of a map are those of the rows that pass
 pub picked_rows : (entry : Right → Entry) (m : ℕ) (rs : List Right) (i : ℕ) → rows_from i rs ≡ true → map (λ p. entry p.1) (filter (λ p. has m p.0) (enumerate_from i rs)) ≡ picked entry m rs
 unfolding picked
