@@ -1,14 +1,12 @@
 -- Which bytes are a number of at most three digits. Assumes nothing.
-use Rattle.std.proofs.Common.{◌≡◌, ℕ, ◌^◌, ◌<◌, ◌≤◌, ◌↔◌, Bool, true, false, List, length, get_or, Some, None, Ok, Result, decimal, IsTrue, sym, refl, ap, ◌∙◌, subst, arith}
-use Rattle.std.specs.Bool.{then_some}
-use Rattle.std.specs.Result.{result_ok}
-use Rattle.std.specs.Str.{IsUtf8}
-use Rattle.std.specs.Str.Parse.{AllDigits, digits_value, ParsesUnsigned}
+use Rattle.std.proofs.Common.{◌≡◌, ℕ, ◌+◌, ◌*◌, ◌^◌, ◌<◌, ◌≤◌, ◌⊎◌, List, [], ◌∷◌, length, get_or, Option, Some, None, MatchOption, decimal, ap, ◌∙◌, sym, subst, ⊎_elim, arith}
+use Rattle.std.specs.Char.{digit_value}
+use Rattle.std.specs.Str.Parse.{AllDigits, digits_value}
 use Rattle.std.specs.Int.{IsInRange}
-use Rattle.std.proofs.lemmas.Fmt.{IsAscii-decimal, decimal_nonempty, digits_decimal, digits_value-decimal}
-use Rattle.std.proofs.lemmas.Str.{IsUtf8-from_ascii}
-use Rattle.std.proofs.lemmas.Str.Parse.{IsNumeralModel, numerals_by_value, tells_digits, digit_at, parse_gives}
-use Rattle.rights.proofs.Checks.{none_some}
+use Rattle.std.proofs.lemmas.Fmt.{decimal_digit, length-decimal-le, decimal_nonempty, first_decimal, digits_decimal, decimal_injective, decimal-digits_value}
+use Rattle.std.proofs.lemmas.Str.{digit_value_digit}
+use Rattle.std.proofs.lemmas.Str.Parse.{IsNumeralModel, numerals_by_value, tells_digits, digit_at, digits_value_short}
+use Rattle.std.proofs.lemmas.Bool.{cases_lt}
 use Rattle.reader.specs.Exactly.{Exactly}
 use Rattle.reader.proofs.Spelled.{exactly_some, exactly_none}
 
@@ -19,25 +17,63 @@ own = numerals_by_value (AllDigits 10) tells_digits
 abbrev pub Reads : List ℕ → ℕ → Type 0
 Reads bs n = (n ≤ 999) × (decimal n ≡ bs)
 
+-- c is the digit d
+abbrev pub Digit : ℕ → ℕ → Type 0
+Digit c d = IsInRange 48 57 c × (d + 48 ≡ c)
+
 module _ (bs : List ℕ) where
-  pub unlike_text : (IsUtf8 bs → ⊥) → Exactly None (Reads bs)
-  unlike_text wrong = exactly_none (Reads bs) (λ n h. wrong (subst IsUtf8 h.1 (IsUtf8-from_ascii (decimal n) (IsAscii-decimal n (omega (arith, h.0))))))
+  pub unlike_length : (length bs ≡ 0) ⊎ (3 < length bs) → Exactly None (Reads bs)
+  unlike_length wrong = exactly_none (Reads bs) (λ n h.
+      let some = decimal_nonempty n (omega (arith, h.0)) in
+      let short = length-decimal-le 3 n (omega arith) (omega (arith, h.0)) (omega (arith, h.0)) in
+      let long = ap length h.1 in
+      ⊎_elim (λ none. omega arith) (λ more. omega arith) wrong)
 
-  module _ {E : Type 0} (r : Result ℕ E) (told : ParsesUnsigned 16 10 bs r) where
-    -- a number that is written so is what parsing gives
-    parsed : (n : ℕ) → Reads bs n → r ≡ Ok n
-    parsed n h =
-        let small : n < 2 ^ 64 = omega (arith, h.0) in
-        let digits = subst (AllDigits 10) h.1 (digits_decimal own n small) in
-        let is : digits_value 10 bs ≡ n = ap (digits_value 10) (sym h.1) ∙ digits_value-decimal own n small in
-        parse_gives own 16 bs r told digits (omega (arith, decimal_nonempty n small, ap length h.1)) (omega (arith, h.0)) ∙ ap Ok is
+  pub unlike_zero : get_or bs 0 0 ≡ 48 → 1 < length bs → Exactly None (Reads bs)
+  unlike_zero first long = exactly_none (Reads bs) (λ n h.
+      let small : n < 2 ^ 64 = omega (arith, h.0) in
+      ⊎_elim
+      (λ more. omega (arith, first_decimal n more small, ap (λ ds. get_or ds 0 0) h.1))
+      (λ none. let e = decimal_digit n (omega arith) in omega (arith, ap length e, ap length h.1))
+      (cases_lt 0 n))
 
-    pub unlike_number : result_ok r ≡ None → Exactly None (Reads bs)
-    unlike_number none = exactly_none (Reads bs) (λ n h. none_some n (sym none ∙ ap result_ok (parsed n h)))
+  pub unlike_digit : (i : ℕ) → i < length bs → (IsInRange 48 57 (get_or bs i 0) → ⊥) → Exactly None (Reads bs)
+  unlike_digit i within wrong = exactly_none (Reads bs) (λ n h.
+      let digits : AllDigits 10 bs = subst (AllDigits 10) h.1 (digits_decimal own n (omega (arith, h.0))) in
+      wrong (digit_at bs i digits within))
 
-    pub reads_number : (n : ℕ) (b : Bool) → result_ok r ≡ Some n → IsTrue b ↔ Reads bs n → Exactly (then_some b n) (Reads bs)
-    reads_number n true is same = exactly_some (Reads bs) n (same.0 refl) (λ m h. let one : Some n ≡ Some m = sym is ∙ ap result_ok (parsed m h) in cc)
-    reads_number n false is same = exactly_none (Reads bs) (λ m h. let one : Some n ≡ Some m = sym is ∙ ap result_ok (parsed m h) in let there : n ≡ m = cc in let no : false ≡ true = same.1 (subst (Reads bs) (sym there) h) in cc)
+  reads_value : (v : ℕ) → digits_value 10 bs ≡ v → AllDigits 10 bs → 0 < length bs → v ≤ 999 → (get_or bs 0 0 ≡ 48 → length bs ≡ 1) → Exactly (Some v) (Reads bs)
+  reads_value v is digits some small first =
+      let written : decimal v ≡ bs = ap decimal (sym is) ∙ decimal-digits_value own bs digits some first (omega arith) in
+      exactly_some (Reads bs) v (small, written) (λ n h. decimal_injective v n (omega arith) (omega (arith, h.0)) (written ∙ sym h.1))
+
+pub reads_one : (bs : List ℕ) (o : Option ℕ) → length bs ≡ 1 → MatchOption o (IsInRange 48 57 (get_or bs 0 0) → ⊥) (Digit (get_or bs 0 0)) → Exactly o (Reads bs)
+reads_one [] o one told = absurd (omega arith)
+reads_one (x ∷ []) None one told = unlike_digit (x ∷ []) 0 (omega arith) told
+reads_one (x ∷ []) (Some a) one told =
+    let is = digit_value_digit x told.0 in
+    reads_value (x ∷ []) a (omega (arith, is, told.1)) (omega (arith, is, told.0), tt) (omega arith) (omega (arith, told.0, told.1)) (λ zero. omega arith)
+reads_one (x ∷ y ∷ bs) o one told = absurd (omega arith)
+
+pub reads_two : (bs : List ℕ) (a b : ℕ) → length bs ≡ 2 → (get_or bs 0 0 ≡ 48 → ⊥) → Digit (get_or bs 0 0) a → Digit (get_or bs 1 0) b → Exactly (Some (10 * a + b)) (Reads bs)
+reads_two [] a b two first d e = absurd (omega arith)
+reads_two (x ∷ []) a b two first d e = absurd (omega arith)
+reads_two (x ∷ y ∷ []) a b two first d e =
+    let is = digit_value_digit x d.0 in
+    let next = digit_value_digit y e.0 in
+    reads_value (x ∷ y ∷ []) (10 * a + b) (omega (arith, is, next, d.1, e.1)) (omega (arith, is, d.0), (omega (arith, next, e.0), tt)) (omega arith) (omega (arith, d.0, d.1, e.0, e.1)) (λ zero. absurd (first zero))
+reads_two (x ∷ y ∷ z ∷ bs) a b two first d e = absurd (omega arith)
+
+pub reads_three : (bs : List ℕ) (a b c : ℕ) → length bs ≡ 3 → (get_or bs 0 0 ≡ 48 → ⊥) → Digit (get_or bs 0 0) a → Digit (get_or bs 1 0) b → Digit (get_or bs 2 0) c → Exactly (Some (100 * a + 10 * b + c)) (Reads bs)
+reads_three [] a b c three first d e f = absurd (omega arith)
+reads_three (x ∷ []) a b c three first d e f = absurd (omega arith)
+reads_three (x ∷ y ∷ []) a b c three first d e f = absurd (omega arith)
+reads_three (x ∷ y ∷ z ∷ []) a b c three first d e f =
+    let is = digit_value_digit x d.0 in
+    let next = digit_value_digit y e.0 in
+    let last = digit_value_digit z f.0 in
+    reads_value (x ∷ y ∷ z ∷ []) (100 * a + 10 * b + c) (omega (arith, is, next, last, d.1, e.1, f.1)) (omega (arith, is, d.0), (omega (arith, next, e.0), (omega (arith, last, f.0), tt))) (omega arith) (omega (arith, d.0, d.1, e.0, e.1, f.0, f.1)) (λ zero. absurd (first zero))
+reads_three (x ∷ y ∷ z ∷ w ∷ bs) a b c three first d e f = absurd (omega arith)
 
 -- each byte of a number is a digit
 pub figure_at : (n i : ℕ) → n ≤ 999 → i < length (decimal n) → IsInRange 48 57 (get_or (decimal n) i 0)

@@ -1,27 +1,39 @@
 // The numbers of a line.
-ghost use Rattle.std.specs.Prelude.{◌≡◌, ℕ, ◌≤◌, ◌↔◌, List, decimal, IsTrue, MatchOption};
+ghost use Rattle.std.specs.Prelude.{◌≡◌, ℕ, ◌+◌, ◌≤◌, List, decimal, MatchOption};
+ghost use Rattle.std.specs.Int.{IsInRange};
 ghost use Rattle.reader.specs.Exactly.{Exactly};
 ghost use Rattle.reader.specs.Reading.{left, Numbered};
 
 use crate::shapes::{Part, Parts};
 use arrayvec::ArrayVec;
-use itoa::Buffer;
 
-// Whether the number has at most three digits, and these are they.
-fn is_written(number: u16, digits: &[u8]) -> bool
-    ensures { IsTrue result ↔ ((number ≤ 999) × (decimal number ≡ digits.now)) }
+// The digit that a byte is, if it is one.
+fn digit(byte: u8) -> Option<u16>
+    ensures { MatchOption result (IsInRange 48 57 byte → ⊥)
+        (λ d. IsInRange 48 57 byte × (d + 48 ≡ byte)) }
 {
-    number <= 999 && Buffer::new().format(number).as_bytes() == digits
+    byte.is_ascii_digit().then(|| u16::from(byte - b'0'))
+}
+
+// The number that some digits are, if they are 1 to 3 without a leading zero.
+fn value_of(digits: &[u8]) -> Option<u16>
+    ensures { Exactly result (λ n. (n ≤ 999) × (decimal n ≡ digits.now)) }
+{
+    match *digits {
+        [b'0', _, ..] => None,
+        [a] => digit(a),
+        [a, b] => Some(10 * digit(a)? + digit(b)?),
+        [a, b, c] => Some(100 * digit(a)? + 10 * digit(b)? + digit(c)?),
+        _ => None,
+    }
 }
 
 impl Part<'_> {
     /// The number that stands here, if one of 1 to 3 digits without a leading zero does.
-    #[tactic(auto, using(crate::proofs::Figures::unlike_number, crate::proofs::Figures::reads_number, std::proofs::lemmas::Grind::common_steps))]
     pub fn number(&self) -> Option<u16>
         ensures { Exactly result (λ n. (n ≤ 999) × (decimal n ≡ self.now.bytes.now)) }
     {
-        let number: u16 = str::from_utf8(self.bytes).ok()?.parse().ok()?;
-        is_written(number, self.bytes).then_some(number)
+        value_of(self.bytes)
     }
 }
 
