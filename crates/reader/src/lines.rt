@@ -1,6 +1,7 @@
 // The reader of a sheet, a line at a time.
 ghost use Rattle.std.specs.Prelude.{◌≡◌, ◌≤◌, ◌↔◌, length, MatchOption, IsTrue};
 ghost use Rattle.std.specs.Iterator.{at_most};
+ghost use Rattle.memchr.specs.Find.{IsFirstByte, is_byte};
 ghost use Rattle.reader.specs.Reading.{rest, Cut, Begun, Ended, Next};
 
 use crate::shapes::{Line, Reader};
@@ -16,14 +17,48 @@ pub fn fits(bytes: &[u8]) -> bool
     bytes.len() <= LONGEST
 }
 
+// How many places are looked at one by one: most pieces of a sheet end within them, and a call of
+// memchr costs more than such a piece.
+const NEAR: usize = 16;
+
+// The first `stop` of many bytes. Out of line, so that what looks at few of them stays short.
+#[inline(never)]
+fn first_of_many(stop: u8, bytes: &[u8]) -> Option<usize>
+    ensures { IsFirstByte (is_byte stop) bytes.now result }
+{
+    memchr(stop, bytes)
+}
+
+// The first `stop` of a few bytes.
+#[inline]
+fn first_of_few(stop: u8, bytes: &[u8]) -> Option<usize>
+    ensures { IsFirstByte (is_byte stop) bytes.now result }
+{
+    bytes.iter().position(|byte| *byte == stop)
+}
+
+// The first `stop` of some bytes.
+#[inline]
+fn first(stop: u8, bytes: &[u8]) -> Option<usize>
+    ensures { IsFirstByte (is_byte stop) bytes.now result }
+{
+    let (near, far) = bytes.split_at(bytes.len().min(NEAR));
+    let place = first_of_few(stop, near);
+    if place.is_some() || far.is_empty() {
+        return place;
+    }
+    Some(near.len() + first_of_many(stop, far)?)
+}
+
 // Where the piece from `from` on ends, at the first `stop` or with the bytes, and the place past
 // that stop.
+#[inline]
 pub(crate) fn cut(bytes: &[u8], from: usize, stop: u8) -> (usize, Option<usize>)
     requires { from ≤ length bytes.now }
     ensures { Cut stop bytes.now from result.0 result.1 }
 {
     let rest = &bytes[from..];
-    let end = from + memchr(stop, rest).unwrap_or(rest.len());
+    let end = from + first(stop, rest).unwrap_or(rest.len());
     (end, (end < bytes.len()).then_some(end + 1))
 }
 
