@@ -1,31 +1,41 @@
--- The first place of a byte in two parts of some bytes. Assumes nothing.
-use Rattle.std.proofs.Common.{◌≡◌, ℕ, ◌+◌, ◌-◌, ◌<◌, ◌==◌, Bool, true, false, Option, Some, None, List, length, get_or, sym, ap, ◌∙◌, subst, ⊎_elim, arith}
+-- The first place of a byte, looked for in the near bytes and then in the rest. Assumes nothing.
+use Rattle.std.proofs.Common.{◌≡◌, ℕ, ◌+◌, ◌-◌, ◌<◌, ◌≤◌, min, Bool, false, Option, Some, None, List, length, get_or, take, drop, sym, ap, ◌∙◌, subst, ⊎_elim, arith, length-take}
 use Rattle.std.specs.Option.{is_some}
 use Rattle.std.proofs.lemmas.Bool.{cases_lt}
-use Rattle.memchr.specs.Find.{is_byte, Passes, Nowhere, NoneBefore, IsFirstByte}
+use Rattle.std.proofs.lemmas.List.{get_or-take, get_or-drop, length-drop, take_all}
+use Rattle.memchr.specs.Find.{Passes, Nowhere, IsFirstByte}
 
 -- no byte is there where none was found
-pub nowhere : (o : Option ℕ) (test : ℕ → Bool) (bytes : List ℕ) → false ≡ is_some o → IsFirstByte test bytes o → Nowhere (Passes test bytes) 0 (length bytes)
+nowhere : (o : Option ℕ) (test : ℕ → Bool) (bytes : List ℕ) → false ≡ is_some o → IsFirstByte test bytes o → Nowhere (Passes test bytes) 0 (length bytes)
 nowhere None test bytes missed told = told
 nowhere (Some k) test bytes missed told = absurd (cc)
 
--- some bytes are near up to m and then far: by each place of theirs
-abbrev pub Joins : ℕ → List ℕ → List ℕ → List ℕ → Type 0
-Joins m bytes near far =
-    ((k d : ℕ) → k < m → get_or near k d ≡ get_or bytes k d) × ((k d : ℕ) → get_or far k d ≡ get_or bytes (m + k) d)
+module _ (test : ℕ → Bool) (bytes : List ℕ) (m n : ℕ) (o : Option ℕ) (low : n ≡ m) (most : m < length bytes) (missed : false ≡ is_some o) (near : IsFirstByte test (take n bytes) o) where
+  none_near : Nowhere (Passes test bytes) 0 m
+  none_near j low' high passes =
+      nowhere o test (take n bytes) missed near j low' (omega (arith, length-take n bytes)) (ap test (get_or-take n bytes j 0 (omega arith)) ∙ passes)
 
-module _ (stop m : ℕ) (bytes near far : List ℕ) (joins : Joins m bytes near far) (front : length near ≡ m) (none : Nowhere (Passes (is_byte stop) near) 0 (length near)) where
-  -- no place of the near ones, and of the far ones none before k
-  none_before : (k : ℕ) → Nowhere (Passes (is_byte stop) far) 0 k → Nowhere (Passes (is_byte stop) bytes) 0 (m + k)
-  none_before k past j low high passes =
+  none_past : (k : ℕ) → Nowhere (Passes test (drop m bytes)) 0 k → Nowhere (Passes test bytes) 0 (m + k)
+  none_past k past j low' high passes =
       ⊎_elim
-      (λ within. none j low (omega arith) (ap (λ b. b == stop) (joins.0 j 0 within) ∙ passes))
+      (λ within. none_near j low' within passes)
       (λ beyond.
           let there : m + (j - m) ≡ j = omega arith in
-          past (j - m) (omega arith) (omega arith) (ap (λ b. b == stop) (joins.1 (j - m) 0 ∙ ap (λ i. get_or bytes i 0) there) ∙ passes))
+          past (j - m) (omega arith) (omega arith) (ap test (get_or-drop m bytes (j - m) 0 ∙ ap (λ i. get_or bytes i 0) there) ∙ passes))
       (cases_lt j m)
 
-  pub first_past : (k : ℕ) → length far + m ≡ length bytes → NoneBefore (Passes (is_byte stop) far) 0 (length far) k × Passes (is_byte stop) far k → NoneBefore (Passes (is_byte stop) bytes) 0 (length bytes) (length near + k) × Passes (is_byte stop) bytes (length near + k)
-  first_past k long found =
-      subst (λ n. NoneBefore (Passes (is_byte stop) bytes) 0 (length bytes) (n + k) × Passes (is_byte stop) bytes (n + k)) (sym front)
-      (record { low = omega arith; high = omega (arith, found.0.high); before = none_before k found.0.before }, ap (λ b. b == stop) (sym (joins.1 k 0)) ∙ found.1)
+  whole : {k : ℕ} → k ≡ length bytes - m → take k (drop m bytes) ≡ drop m bytes
+  whole {k} all = take_all k (drop m bytes) (omega (arith, length-drop m bytes))
+
+  pub none_at_all : {k : ℕ} → k ≡ length bytes - m → IsFirstByte test (take k (drop m bytes)) None → IsFirstByte test bytes None
+  none_at_all all told =
+      let none = subst (λ far. IsFirstByte test far None) (whole all) told in
+      let far = length-drop m bytes in
+      subst (Nowhere (Passes test bytes) 0) (omega (arith, far)) (none_past (length (drop m bytes)) none)
+
+  pub first_past : {k i : ℕ} → k ≡ length bytes - m → IsFirstByte test (take k (drop m bytes)) (Some i) → IsFirstByte test bytes (Some (m + i))
+  first_past {k} {i} all told =
+      let found = subst (λ far. IsFirstByte test far (Some i)) (whole all) told in (
+        record { low = omega arith; high = omega (arith, found.0.high, length-drop m bytes); before = none_past i found.0.before },
+        ap test (sym (get_or-drop m bytes i 0)) ∙ found.1,
+      )

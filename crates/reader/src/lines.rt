@@ -42,12 +42,11 @@ fn first_of_few(stop: u8, bytes: &[u8]) -> Option<usize>
 fn first(stop: u8, bytes: &[u8]) -> Option<usize>
     ensures { IsFirstByte (is_byte stop) bytes.now result }
 {
-    let (near, far) = bytes.split_at(bytes.len().min(NEAR));
-    let place = first_of_few(stop, near);
-    if place.is_some() || far.is_empty() {
-        return place;
+    let near = first_of_few(stop, &bytes[..bytes.len().min(NEAR)]);
+    if near.is_some() || bytes.len() <= NEAR {
+        return near;
     }
-    Some(near.len() + first_of_many(stop, far)?)
+    Some(NEAR + first_of_many(stop, &bytes[NEAR..])?)
 }
 
 // Where the piece from `from` on ends, at the first `stop` or with the bytes, and the place past

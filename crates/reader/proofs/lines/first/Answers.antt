@@ -1,9 +1,11 @@
-use Rattle.memchr.specs.Find.{is_byte}
-use Rattle.reader.proofs.Found.{nowhere, first_past}
+use Rattle.std.proofs.Common.{None, sym, refl, subst, arith}
+use Rattle.memchr.specs.Find.{IsFirstByte, is_byte}
+use Rattle.reader.proofs.Found.{none_at_all, first_past}
 use Rattle.reader.proofs.lines.first.Goals as goal
 
+pub returns-in_err-first_of_many : goal.returns-in_err-first_of_many
+returns-in_err-first_of_many c =
+    rw c.from_residual.ensures (none_at_all (is_byte c.args.stop) c.args.bytes.now 16 c.min.result c.first_of_few-near.result (omega (arith, c.min.ensures)) (omega arith) c.if-is_some.ensures c.first_of_few-near.ensures refl c.in_err-first_of_many.ensures)
+
 pub returns : goal.returns
-returns c =
-    let split = c.split_at.ensures in
-    let none = nowhere c.first_of_few-place.result (is_byte c.args.stop) c.split_at.result.0.now c.if-is_some.ensures c.first_of_few-place.ensures in
-    first_past c.args.stop c.min.result c.args.bytes.now c.split_at.result.0.now c.split_at.result.1.now (split.by_index.1, split.by_index.2) split.front_len none _ split.back_len c.in_ok-first_of_many.ensures
+returns c = first_past (is_byte c.args.stop) c.args.bytes.now 16 c.min.result c.first_of_few-near.result (omega (arith, c.min.ensures)) (omega arith) c.if-is_some.ensures c.first_of_few-near.ensures refl c.in_ok-first_of_many.ensures
