@@ -17,11 +17,19 @@ pub fn fits(bytes: &[u8]) -> bool
     bytes.len() <= LONGEST
 }
 
-// How many places are looked at one by one: most pieces of a sheet end within them, and a call of
+// How many bytes are looked at one by one: most pieces of a sheet end within them, and a call of
 // memchr costs more than such a piece.
 const NEAR: usize = 16;
 
-// The first `stop` of many bytes. Out of line, so that what looks at few of them stays short.
+// The first `stop` of a few bytes.
+#[inline(always)]
+fn first_of_few(stop: u8, bytes: &[u8]) -> Option<usize>
+    ensures { IsFirstByte (is_byte stop) bytes.now result }
+{
+    bytes.iter().position(|byte| *byte == stop)
+}
+
+// The first `stop` of many bytes. Out of line, so that the way past the near bytes stays short.
 #[inline(never)]
 fn first_of_many(stop: u8, bytes: &[u8]) -> Option<usize>
     ensures { IsFirstByte (is_byte stop) bytes.now result }
@@ -29,29 +37,24 @@ fn first_of_many(stop: u8, bytes: &[u8]) -> Option<usize>
     memchr(stop, bytes)
 }
 
-// The first `stop` of a few bytes.
-#[inline]
-fn first_of_few(stop: u8, bytes: &[u8]) -> Option<usize>
-    ensures { IsFirstByte (is_byte stop) bytes.now result }
-{
-    bytes.iter().position(|byte| *byte == stop)
-}
-
 // The first `stop` of some bytes.
-#[inline]
+#[inline(always)]
 fn first(stop: u8, bytes: &[u8]) -> Option<usize>
     ensures { IsFirstByte (is_byte stop) bytes.now result }
 {
-    let near = first_of_few(stop, &bytes[..bytes.len().min(NEAR)]);
-    if near.is_some() || bytes.len() <= NEAR {
+    if bytes.len() <= NEAR {
+        return first_of_few(stop, bytes);
+    }
+    let near = first_of_few(stop, &bytes[..NEAR]);
+    if near.is_some() {
         return near;
     }
     Some(NEAR + first_of_many(stop, &bytes[NEAR..])?)
 }
 
 // Where the piece from `from` on ends, at the first `stop` or with the bytes, and the place past
-// that stop.
-#[inline]
+// that stop. Always inlined, as what it calls: the call would cost as much as a short piece.
+#[inline(always)]
 pub(crate) fn cut(bytes: &[u8], from: usize, stop: u8) -> (usize, Option<usize>)
     requires { from ≤ length bytes.now }
     ensures { Cut stop bytes.now from result.0 result.1 }

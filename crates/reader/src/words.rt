@@ -41,6 +41,7 @@ impl<'a> Line<'a> {
 
 impl<'a> Parts<'a> {
     /// Takes the next part, which ends at a space or with the line. None past the last one.
+    #[inline(always)]
     #[tactic(auto, using(crate::proofs::Pieces::pieces))]
     pub fn next_part(&mut self) -> Option<Part<'a>>
         ensures { MatchOption result (NoPart self.old self.new)
