@@ -1,6 +1,9 @@
 -- How long an answer can be. Assumes nothing.
-use Rattle.std.proofs.Common.{ℕ, ◌^◌, ◌<◌, ◌≤◌, length, decimal, arith}
-use Rattle.std.proofs.lemmas.Fmt.{length-decimal-le}
+use Rattle.std.proofs.Common.{◌≡◌, ℕ, zero, suc, ◌+◌, ◌*◌, ◌/◌, ◌%◌, ◌^◌, ◌<◌, ◌≤◌, max, length, decimal, ap, ◌∙◌, ⊎_elim, arith}
+use Rattle.std.proofs.Math.Nat.{pow-suc}
+use Rattle.std.proofs.lemmas.Bool.{cases_lt}
+use Rattle.std.proofs.lemmas.Fmt.{decimal_digit, decimal_step, decimal_nonempty, length-decimal-le}
+use Rattle.std.proofs.lemmas.List.{length_push}
 use Rattle.rights.specs.declared.commands.Ground.{Ground}
 use Rattle.rights.specs.declared.faults.BookFault.{BookFault}
 use Rattle.rights.specs.declared.faults.RollFault.{RollFault}
@@ -66,3 +69,25 @@ count_short n small = length-decimal-le 10 n (omega arith) (omega arith) (omega 
 
 -- how long each part of an answer can be
 pub ruleset short = (count_short, ground_short, number_short, layer_short)
+
+ten_pos : (k : ℕ) → 0 < 10 ^ k
+ten_pos zero = omega arith
+ten_pos (suc k) = omega (arith, pow-suc 10 k, ten_pos k)
+
+-- a number from a power of ten on has more digits than its exponent
+longer : (k n : ℕ) → 10 ^ k ≤ n → n < 2 ^ 64 → k < length (decimal n)
+longer zero n low small = decimal_nonempty n small
+longer (suc k) n low small =
+    let more : 10 ≤ n = omega (arith, pow-suc 10 k, ten_pos k) in
+    let step : length (decimal n) ≡ length (decimal (n / 10)) + 1 = ap length (decimal_step n more small) ∙ length_push (decimal (n / 10)) (48 + n % 10) in
+    omega (arith, step, longer k (n / 10) (omega (arith, pow-suc 10 k)) (omega arith))
+
+-- how many digits a number has, by the power of ten under it
+pub digits_many : (n k : ℕ) → n < 2 ^ 32 → 10 ^ k ≤ max n 1 → max n 1 < 10 * 10 ^ k → k + 1 ≡ length (decimal n)
+digits_many n k small low high = ⊎_elim none some (cases_lt n 1)
+  where
+    none : n < 1 → k + 1 ≡ length (decimal n)
+    none h = omega (arith, ap length (decimal_digit n (omega arith)), longer k 1 (omega arith) (omega arith), ap length (decimal_digit 1 (omega arith)))
+
+    some : 1 ≤ n → k + 1 ≡ length (decimal n)
+    some h = omega (arith, longer k n (omega arith) (omega arith), length-decimal-le (suc k) n (omega arith) (omega (arith, pow-suc 10 k)) (omega arith))

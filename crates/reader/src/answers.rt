@@ -1,65 +1,82 @@
 // The writer of answers.
-ghost use Rattle.std.specs.Prelude.{◌≡◌, ◌+◌, ◌≤◌, ◌++◌, length, IfOk, decimal};
-ghost use Rattle.arrayvec.specs.ArrayString.{array_string_len};
-ghost use Rattle.reader.specs.Answers.{answer_text, answer_line, Answered};
+ghost use Rattle.std.specs.Prelude.{◌≡◌, ◌+◌, ◌≤◌, ◌++◌, length, drop, IfOk, decimal};
+ghost use Rattle.reader.specs.Answers.{answer_text, answer_line, Put, Answered};
 
-use arrayvec::ArrayString;
-use itoa::Buffer;
+use itoa::write_digits;
 use rights::{Answer, RegisterFault};
 
 /// The shortest buffer that an answer is written to.
 pub const SHORTEST_BUFFER: usize = 32;
 
-// By hand: `impl Display for Answer` proves, but no clause says when a `write!` of it gives `Ok`.
-// Adds the digits of `n`.
-fn push_number(text: &mut ArrayString<SHORTEST_BUFFER>, n: u32)
-    requires { array_string_len text.old + length (decimal n) ≤ SHORTEST_BUFFER }
-    ensures { text.new.bytes ≡ text.old.bytes ++ decimal n }
+// Each text is put where it belongs, and its length is mostly known here: a text made beside the
+// buffer costs a copy of unknown length more, and one that waits for the writes before it.
+
+// Writes `text` from `at` on, and gives the place after it.
+fn put_text(buffer: &mut [u8], at: usize, text: &[u8]) -> usize
+    requires { at + length text.now ≤ length buffer.old }
+    ensures { Put at text.now buffer.old result buffer.new }
 {
-    text.push_str(Buffer::new().format(n));
+    let end = at + text.len();
+    buffer[at..end].copy_from_slice(text);
+    end
 }
 
-// Adds some words and then the digits of `n`.
-fn push_both(text: &mut ArrayString<SHORTEST_BUFFER>, words: &str, n: u32)
-    requires { array_string_len text.old + length words.now + length (decimal n) ≤ SHORTEST_BUFFER }
-    ensures { text.new.bytes ≡ text.old.bytes ++ (words.now ++ decimal n) }
+// How many digits a number has: 0 has as many as 1.
+fn digits(n: u32) -> usize
+    ensures { result ≡ length (decimal n) }
 {
-    text.push_str(words);
-    push_number(text, n);
+    n.max(1).ilog10() as usize + 1
 }
 
-// Adds an answer, without line number and end byte.
-#[tactic(auto, using(crate::proofs::Sizes::short, std::proofs::lemmas::Grind::common_steps))]
-fn push_answer(text: &mut ArrayString<SHORTEST_BUFFER>, answer: &Answer)
-    requires { array_string_len text.old + 13 ≤ SHORTEST_BUFFER }
-    ensures text { text.new.bytes ≡ text.old.bytes ++ answer_text answer.now }
+// Writes the digits of `n` from `at` on, and gives the place after them.
+fn put_number(buffer: &mut [u8], at: usize, n: u32) -> usize
+    requires { at + length (decimal n) ≤ length buffer.old }
+    ensures { Put at (decimal n) buffer.old result buffer.new }
+{
+    let end = at + digits(n);
+    write_digits(u64::from(n), buffer, end);
+    end
+}
+
+// Writes `words` and then the digits of `n` from `at` on, and gives the place after them.
+fn put_both(buffer: &mut [u8], at: usize, words: &[u8], n: u32) -> usize
+    requires { at + length (words.now ++ decimal n) ≤ length buffer.old }
+    ensures { Put at (words.now ++ decimal n) buffer.old result buffer.new }
+{
+    let next = put_text(buffer, at, words);
+    put_number(buffer, next, n)
+}
+
+// Writes an answer from `at` on, without line number and end byte, and gives the place after it.
+fn put_answer(buffer: &mut [u8], at: usize, answer: &Answer) -> usize
+    requires { at + 13 ≤ length buffer.old }
+    ensures put { Put at (answer_text answer.now) buffer.old result buffer.new }
     ensures short { length (answer_text answer.now) ≤ 13 }
 {
     match answer {
-        Answer::Done => text.push_str("ok"),
-        Answer::Struck(count) => push_both(text, "ok ", *count),
-        Answer::Yes(ground) => push_both(text, "yes ", u32::from(*ground)),
-        Answer::No(ground) => push_both(text, "no ", u32::from(*ground)),
+        Answer::Done => put_text(buffer, at, b"ok"),
+        Answer::Struck(count) => put_both(buffer, at, b"ok ", *count),
+        Answer::Yes(ground) => put_both(buffer, at, b"yes ", u32::from(*ground)),
+        Answer::No(ground) => put_both(buffer, at, b"no ", u32::from(*ground)),
         Answer::Refused(fault) => {
-            push_both(text, "refused ", u32::from(fault.number()));
-            push_both(text, " ", u32::from(fault.layer()));
+            let next = put_both(buffer, at, b"refused ", u32::from(fault.number()));
+            put_both(buffer, next, b" ", u32::from(fault.layer()))
         }
     }
 }
 
-// The answer to a line, as it is printed. The number and the answer stay two all the way: a caller
-// has one from the reader and the other from the sitting.
-#[tactic(auto, using(crate::proofs::Sizes::short, std::proofs::lemmas::Grind::common_steps), unfolding(crate::specs::Answers::answer_line))]
-fn printed(line: u32, answer: &Answer) -> ArrayString<SHORTEST_BUFFER>
-    ensures text { result.bytes ≡ answer_line line answer.now }
-    ensures short { length (answer_line line answer.now) ≤ 25 }
+// Writes the answer to a line at the front of the buffer, and gives its length. The number and the
+// answer stay two all the way: a caller has one from the reader and the other from the sitting.
+fn put_line(buffer: &mut [u8], line: u32, answer: &Answer) -> usize
+    requires { 32 ≤ length buffer.old }
+    ensures text { buffer.new ≡ answer_line line answer.now ++ drop result buffer.old }
+    ensures past { result ≡ length (answer_line line answer.now) }
+    ensures short { result ≤ 25 }
 {
-    let mut text = ArrayString::new();
-    push_number(&mut text, line);
-    text.push_str(" ");
-    push_answer(&mut text, answer);
-    text.push_str("\n");
-    text
+    let at = put_number(buffer, 0, line);
+    let at = put_text(buffer, at, b" ");
+    let at = put_answer(buffer, at, answer);
+    put_text(buffer, at, b"\n")
 }
 
 /// Writes the answer to a line at the front of the buffer, and gives its length. A short buffer is
@@ -71,7 +88,5 @@ pub fn write_answer(buffer: &mut [u8], line: u32, answer: &Answer) -> Result<usi
     if buffer.len() < SHORTEST_BUFFER {
         return Err(RegisterFault::ShortList);
     }
-    let text = printed(line, answer);
-    buffer[..text.len()].copy_from_slice(text.as_bytes());
-    Ok(text.len())
+    Ok(put_line(buffer, line, answer))
 }
