@@ -3,7 +3,7 @@ use Rattle.std.proofs.Common.{◌≡◌, ℕ, ◌+◌, ◌-◌, ◌<◌, Bool, t
 use Rattle.std.specs.Option.{is_some}
 use Rattle.std.proofs.lemmas.Bool.{cases_lt}
 use Rattle.std.proofs.lemmas.List.{get_or-take, get_or-drop, length-drop, take_all}
-use Rattle.memchr.specs.Find.{Passes, Nowhere, NoneBefore, IsFirstByte}
+use Rattle.memchr.specs.Find.{Passes, Nowhere, IsFirstByte}
 
 module _ (test : ℕ → Bool) (bytes : List ℕ) (m : ℕ) (more : m < length bytes) where
   length_near : length (take m bytes) ≡ m
