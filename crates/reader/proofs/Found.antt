@@ -1,9 +1,9 @@
 -- The first place of a byte, looked for in the first m bytes and then in the rest. Assumes nothing.
-use Rattle.std.proofs.Common.{◌≡◌, ℕ, ◌+◌, ◌-◌, ◌<◌, Bool, true, false, Option, Some, None, List, length, get_or, take, drop, sym, ap, ◌∙◌, subst, ⊎_elim, arith, length-take}
+use Rattle.std.proofs.Common.{◌≡◌, ℕ, zero, suc, ◌+◌, ◌-◌, ◌<◌, Bool, true, false, Option, Some, None, List, [], ◌∷◌, length, get_or, take, drop, sym, refl, ap, ◌∙◌, subst, ⊎_elim, arith, length-take}
 use Rattle.std.specs.Option.{is_some}
-use Rattle.std.proofs.lemmas.Bool.{cases_lt}
+use Rattle.std.proofs.lemmas.Bool.{cases_lt, cases_eq, cases_Bool, cond-true, cond-false, false≢true}
 use Rattle.std.proofs.lemmas.List.{get_or-take, get_or-drop, length-drop, take_all}
-use Rattle.memchr.specs.Find.{Passes, Nowhere, IsFirstByte}
+use Rattle.memchr.specs.Find.{Passes, Nowhere, IsFirst, IsFirstByte, TakesFirst, places, places_from}
 
 module _ (test : ℕ → Bool) (bytes : List ℕ) (m : ℕ) (more : m < length bytes) where
   length_near : length (take m bytes) ≡ m
@@ -50,3 +50,54 @@ module _ (test : ℕ → Bool) (bytes : List ℕ) (m : ℕ) (more : m < length b
           record { low = omega arith; high = omega (arith, found.0.high, length-drop m bytes); before = none_past k found.0.before },
           ap test (sym (get_or-drop m bytes k 0)) ∙ found.1,
         )
+
+module _ (test : ℕ → Bool) (bytes : List ℕ) where
+  places_here : (i n : ℕ) → Passes test bytes i → places_from test bytes i (suc n) ≡ i ∷ places_from test bytes (i + 1) n
+  unfolding places_from
+  places_here i n right = cond-true _ _ _ right
+
+  places_none : (i : ℕ) → places_from test bytes i 0 ≡ []
+  unfolding places_from
+  places_none i = refl
+
+  places_skip : (i n : ℕ) → test (get_or bytes i 0) ≡ false → places_from test bytes i (suc n) ≡ places_from test bytes (i + 1) n
+  unfolding places_from
+  places_skip i n wrong = cond-false _ _ _ wrong
+
+  here : (i n : ℕ) (r : Option ℕ) (more left : List ℕ) → Passes test bytes i → TakesFirst (i ∷ more) r left → IsFirst (Passes test bytes) i (i + suc n) r
+  here i n None more left right took = absurd (cc (took.0))
+  here i n (Some k) more left right took =
+      let same : i ≡ k = cc in
+      (record { low = omega arith; high = omega arith; before = λ j low high passes. omega arith }, subst (Passes test bytes) same right)
+
+  later : (i n : ℕ) (r : Option ℕ) → test (get_or bytes i 0) ≡ false → IsFirst (Passes test bytes) (i + 1) (i + 1 + n) r → IsFirst (Passes test bytes) i (i + suc n) r
+  later i n None wrong told = λ j low high passes. ⊎_elim
+      (λ same. false≢true (sym wrong ∙ ap (λ k. test (get_or bytes k 0)) (sym same) ∙ passes))
+      (λ other. told j (omega arith) (omega arith) passes)
+      (cases_eq j i)
+  later i n (Some k) wrong told = (
+    record {
+      low = omega (arith, told.0.low);
+      high = omega (arith, told.0.high);
+      before = λ j low high passes. ⊎_elim
+          (λ same. false≢true (sym wrong ∙ ap (λ k. test (get_or bytes k 0)) (sym same) ∙ passes))
+          (λ other. told.0.before j (omega arith) (omega arith) passes)
+          (cases_eq j i);
+    },
+    told.1,
+  )
+
+  -- what is taken first of the places is the first of them
+  first_place : (n i : ℕ) (r : Option ℕ) (left : List ℕ) → TakesFirst (places_from test bytes i n) r left → IsFirst (Passes test bytes) i (i + n) r
+  first_place zero i None left took = λ j low high passes. omega arith
+  first_place zero i (Some k) left took = let none : [] ≡ k ∷ left = sym (places_none i) ∙ took in absurd (cc)
+  first_place (suc n) i r left took =
+      ⊎_elim
+      (λ right. here i n r _ left right (subst (λ ps. TakesFirst ps r left) (places_here i n right) took))
+      (λ wrong. later i n r wrong (first_place n (i + 1) r left (subst (λ ps. TakesFirst ps r left) (places_skip i n wrong) took)))
+      (cases_Bool (test (get_or bytes i 0)))
+
+  pub first_of_all : (r : Option ℕ) (left : List ℕ) → TakesFirst (places test bytes) r left → IsFirstByte test bytes r
+  first_of_all r left took =
+      let all : 0 + (length bytes - 0) ≡ length bytes = omega arith in
+      subst (λ n. IsFirst (Passes test bytes) 0 n r) all (first_place (length bytes - 0) 0 r left took)

@@ -5,7 +5,7 @@ ghost use Rattle.memchr.specs.Find.{IsFirstByte, is_byte};
 ghost use Rattle.reader.specs.Reading.{rest, Cut, Begun, Ended, Next};
 
 use crate::shapes::{Line, Reader};
-use memchr::memchr;
+use memchr::memchr_iter;
 
 /// The longest sheet that is read.
 pub const LONGEST: usize = 32_768;
@@ -17,8 +17,8 @@ pub fn fits(bytes: &[u8]) -> bool
     bytes.len() <= LONGEST
 }
 
-// How many bytes are looked at one by one: most pieces of a sheet end within them, and a call of
-// memchr costs more than such a piece.
+// How many bytes of a line are looked at one by one: most lines of a sheet end within them, and a
+// search by vectors costs more than such a line.
 const NEAR: usize = 16;
 
 // The first `stop` of a few bytes.
@@ -29,38 +29,39 @@ fn first_of_few(stop: u8, bytes: &[u8]) -> Option<usize>
     bytes.iter().position(|byte| *byte == stop)
 }
 
-// The first `stop` of many bytes. Out of line, so that the way past the near bytes stays short.
+// The first `stop` of many bytes. The iterator tries the next 32 first, as `memchr` does not. Out of
+// line, so that the way past a few bytes stays short.
 #[inline(never)]
 fn first_of_many(stop: u8, bytes: &[u8]) -> Option<usize>
     ensures { IsFirstByte (is_byte stop) bytes.now result }
 {
-    memchr(stop, bytes)
+    memchr_iter(stop, bytes).next()
 }
 
-// The first `stop` of some bytes.
+// The first `stop` of some bytes, of which `near` are looked at one by one.
 #[inline(always)]
-fn first(stop: u8, bytes: &[u8]) -> Option<usize>
+fn first(stop: u8, bytes: &[u8], near: usize) -> Option<usize>
     ensures { IsFirstByte (is_byte stop) bytes.now result }
 {
-    if bytes.len() <= NEAR {
+    if bytes.len() <= near {
         return first_of_few(stop, bytes);
     }
-    let near = first_of_few(stop, &bytes[..NEAR]);
-    if near.is_some() {
-        return near;
+    let found = first_of_few(stop, &bytes[..near]);
+    if found.is_some() {
+        return found;
     }
-    Some(NEAR + first_of_many(stop, &bytes[NEAR..])?)
+    Some(near + first_of_many(stop, &bytes[near..])?)
 }
 
 // Where the piece from `from` on ends, at the first `stop` or with the bytes, and the place past
 // that stop. Always inlined, as what it calls: the call would cost as much as a short piece.
 #[inline(always)]
-pub(crate) fn cut(bytes: &[u8], from: usize, stop: u8) -> (usize, Option<usize>)
+pub(crate) fn cut(bytes: &[u8], from: usize, stop: u8, near: usize) -> (usize, Option<usize>)
     requires { from ≤ length bytes.now }
     ensures { Cut stop bytes.now from result.0 result.1 }
 {
     let rest = &bytes[from..];
-    let end = from + first(stop, rest).unwrap_or(rest.len());
+    let end = from + first(stop, rest, near).unwrap_or(rest.len());
     (end, (end < bytes.len()).then_some(end + 1))
 }
 
@@ -86,7 +87,7 @@ impl<'a> Reader<'a> {
             return None;
         }
         let at = self.at;
-        let (end, next) = cut(self.bytes, at, b'\n');
+        let (end, next) = cut(self.bytes, at, b'\n', NEAR);
         self.at = next.unwrap_or(end);
         self.line += 1;
         Some(Line {

@@ -8,6 +8,10 @@ ghost use Rattle.reader.specs.Words.{text};
 use crate::lines::cut;
 use crate::shapes::{Line, Part, Parts};
 
+// How many bytes of a part are looked at one by one: each word and number of a command ends within
+// them.
+const NEAR: usize = 8;
+
 /// The words that a line can begin with.
 #[derive(Clone, Copy)]
 pub enum Word {
@@ -41,6 +45,7 @@ impl<'a> Line<'a> {
 
 impl<'a> Parts<'a> {
     /// Takes the next part, which ends at a space or with the line. None past the last one.
+    // Always inlined: the call would cost as much as a short part.
     #[inline(always)]
     #[tactic(auto, using(crate::proofs::Pieces::pieces))]
     pub fn next_part(&mut self) -> Option<Part<'a>>
@@ -48,7 +53,7 @@ impl<'a> Parts<'a> {
             (λ x. NextPart self.old x self.new) }
     {
         let at = self.at?;
-        let (end, next) = cut(self.line, at, b' ');
+        let (end, next) = cut(self.line, at, b' ', NEAR);
         self.at = next;
         Some(Part {
             at,
