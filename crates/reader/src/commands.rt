@@ -7,6 +7,7 @@ ghost use Rattle.reader.specs.Spelling.{word as word_of, numbers as numbers_of, 
 use crate::numbers::numbers;
 use crate::shapes::Line;
 use crate::words::Word;
+use arrayvec::ArrayVec;
 use rights::{Command, Named};
 
 // The tables of a view, if they are not too many. Not in `command_of` itself: with the conversion
@@ -80,7 +81,8 @@ fn read(line: &Line<'_>) -> Option<Command>
 {
     let mut parts = line.parts();
     let word = parts.next_part()?.word()?;
-    let rest = numbers(parts)?;
+    let mut rest = ArrayVec::new();
+    numbers(parts, &mut rest)?;
     command_of(word, &rest)
 }
 

@@ -1,5 +1,5 @@
 // The numbers of a line.
-ghost use Rattle.std.specs.Prelude.{◌≡◌, ℕ, ◌+◌, ◌≤◌, List, decimal, MatchOption};
+ghost use Rattle.std.specs.Prelude.{◌≡◌, ℕ, ◌+◌, ◌≤◌, List, [], decimal, MatchOption};
 ghost use Rattle.std.specs.Int.{IsInRange};
 ghost use Rattle.reader.specs.Exactly.{Exactly};
 ghost use Rattle.reader.specs.Reading.{left, Numbered};
@@ -37,14 +37,15 @@ impl Part<'_> {
     }
 }
 
-// Takes the parts that are left, if each is a number and they are not too many.
-pub(crate) fn numbers(parts: Parts<'_>) -> Option<ArrayVec<u16, 16>>
+// Takes the parts that are left, if each is a number and they are not too many. The list is lent
+// and not handed out: what was just written is dear to copy.
+pub(crate) fn numbers(parts: Parts<'_>, list: &mut ArrayVec<u16, 16>) -> Option<()>
+    requires { list.old.items ≡ [] }
     ensures { MatchOption result ((ns : List ℕ) → Numbered (left parts.entry) ns → ⊥)
-        (λ n. Numbered (left parts.entry) n.items) }
+        (λ _. Numbered (left parts.entry) list.new.items) }
 {
-    let mut numbers = ArrayVec::new();
     for part in parts {
-        numbers.try_push(part.number()?).ok()?;
+        list.try_push(part.number()?).ok()?;
     }
-    Some(numbers)
+    Some(())
 }

@@ -11,6 +11,6 @@ returns-in_err-ok c = rw c.from_residual-in_err-ok.ensures (too_many _ c.loop-pa
 
 pub loop-part-preserved : goal.loop-part-preserved
 loop-part-preserved c =
-    let room : length c.loop-part.numbers.items < 16 = grind (arith, common_steps) in
-    let pushed : c.try_push.new.self.items ≡ c.loop-part.numbers.items ++ c.in_ok-number.field-0 ∷ [] = grind (arith, common_steps) in
+    let room : length c.loop-part.list.items < 16 = grind (arith, common_steps) in
+    let pushed : c.try_push.new.self.items ≡ c.loop-part.list.items ++ c.in_ok-number.field-0 ∷ [] = grind (arith, common_steps) in
     one_more pushed _ c.loop-part.invariant c.in-Some.ensures.steps.first ((c.number.ensures c.in_ok-number.field-0).0 c.in_ok-number.was) room
