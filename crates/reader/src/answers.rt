@@ -8,8 +8,9 @@ use rights::{Answer, RegisterFault};
 /// The shortest buffer that an answer is written to.
 pub const SHORTEST_BUFFER: usize = 32;
 
-// Each text is put where it belongs, and its length is mostly known here: a text made beside the
-// buffer costs a copy of unknown length more, and one that waits for the writes before it.
+// By hand: `impl Display for Answer` proves, but no clause says when a `write!` of it gives `Ok`.
+// In its place: a text made beside the buffer costs one copy more, of a length that is not known
+// here and of bytes that were just written.
 
 // Writes `text` from `at` on, and gives the place after it.
 fn put_text(buffer: &mut [u8], at: usize, text: &[u8]) -> usize
