@@ -17,8 +17,8 @@ pub fn fits(bytes: &[u8]) -> bool
     bytes.len() <= LONGEST
 }
 
-// How many bytes of a line are looked at one by one: most lines of a sheet end within them, and a
-// search by vectors costs more than such a line.
+// How many bytes of a piece are looked at one by one: most lines, words and numbers of a sheet end
+// within them, and a search by vectors costs more than such a piece.
 const NEAR: usize = 16;
 
 // The first `stop` of a few bytes.
@@ -38,30 +38,30 @@ fn first_of_many(stop: u8, bytes: &[u8]) -> Option<usize>
     memchr_iter(stop, bytes).next()
 }
 
-// The first `stop` of some bytes, of which `near` are looked at one by one.
+// The first `stop` of some bytes.
 #[inline(always)]
-fn first(stop: u8, bytes: &[u8], near: usize) -> Option<usize>
+fn first(stop: u8, bytes: &[u8]) -> Option<usize>
     ensures { IsFirstByte (is_byte stop) bytes.now result }
 {
-    if bytes.len() <= near {
+    if bytes.len() <= NEAR {
         return first_of_few(stop, bytes);
     }
-    let found = first_of_few(stop, &bytes[..near]);
-    if found.is_some() {
-        return found;
+    let near = first_of_few(stop, &bytes[..NEAR]);
+    if near.is_some() {
+        return near;
     }
-    Some(near + first_of_many(stop, &bytes[near..])?)
+    Some(NEAR + first_of_many(stop, &bytes[NEAR..])?)
 }
 
 // Where the piece from `from` on ends, at the first `stop` or with the bytes, and the place past
 // that stop. Always inlined, as what it calls: the call would cost as much as a short piece.
 #[inline(always)]
-pub(crate) fn cut(bytes: &[u8], from: usize, stop: u8, near: usize) -> (usize, Option<usize>)
+pub(crate) fn cut(bytes: &[u8], from: usize, stop: u8) -> (usize, Option<usize>)
     requires { from ≤ length bytes.now }
     ensures { Cut stop bytes.now from result.0 result.1 }
 {
     let rest = &bytes[from..];
-    let end = from + first(stop, rest, near).unwrap_or(rest.len());
+    let end = from + first(stop, rest).unwrap_or(rest.len());
     (end, (end < bytes.len()).then_some(end + 1))
 }
 
@@ -79,6 +79,8 @@ impl<'a> Reader<'a> {
     }
 
     /// Takes the next line, readable or not. None at the end of the sheet.
+    // Always inlined: the call would cost as much as a short line.
+    #[inline(always)]
     #[tactic(auto, using(crate::proofs::Pieces::pieces, std::proofs::lemmas::List::drop_all))]
     pub fn next_line(&mut self) -> Option<Line<'a>>
         ensures { MatchOption result (Ended self.old self.new) (λ l. Next self.old l self.new) }
@@ -87,7 +89,7 @@ impl<'a> Reader<'a> {
             return None;
         }
         let at = self.at;
-        let (end, next) = cut(self.bytes, at, b'\n', NEAR);
+        let (end, next) = cut(self.bytes, at, b'\n');
         self.at = next.unwrap_or(end);
         self.line += 1;
         Some(Line {

@@ -8,10 +8,6 @@ ghost use Rattle.reader.specs.Words.{text};
 use crate::lines::cut;
 use crate::shapes::{Line, Part, Parts};
 
-// How many bytes of a part are looked at one by one: each word and number of a command ends within
-// them.
-const NEAR: usize = 8;
-
 /// The words that a line can begin with.
 #[derive(Clone, Copy)]
 pub enum Word {
@@ -53,7 +49,7 @@ impl<'a> Parts<'a> {
             (λ x. NextPart self.old x self.new) }
     {
         let at = self.at?;
-        let (end, next) = cut(self.line, at, b' ', NEAR);
+        let (end, next) = cut(self.line, at, b' ');
         self.at = next;
         Some(Part {
             at,
