@@ -1,4 +1,4 @@
--- A command is known by its word and its numbers. Assumes nothing.
+-- What a view names is known by its tables, and what a list of tables gives names them. Assumes nothing.
 use Rattle.std.proofs.Common.{◌≡◌, ℕ, ◌-◌, ◌<◌, ◌≤◌, List, ◌++◌, length, drop, replicate, Ok, Err, Option, Result, MatchResult, subst, sym, refl, ap, ◌∙◌, arith}
 use mathlib.Core.HLevel.{is_prop→PathP}
 use native.Mathlib.Bridge.{le_prop}

@@ -40,7 +40,10 @@ impl Catalogue {
         ensures { IsTrue result ↔ IsCreator (subjects_in self.now) number }
     {
         // not one function with `is_person`: what they have in common is the look-up
-        matches!(self.subject(number), Some(Subject::Person { creator: true }))
+        matches!(
+            self.subject(number),
+            Some(Subject::Person { creator: true })
+        )
     }
 
     /// Whether a table stands under `number`.
